@@ -1,12 +1,12 @@
 -- The laws of `allBelow` and `countBelow`. Assumes nothing.
-use mathlib.Core.Path.{_≡_, refl, ap, ap₂, _∙_}
-use mathlib.Core.Bool.{Bool, true, cond}
+use mathlib.Core.Path.{_≡_, refl, sym, ap, ap₂, _∙_}
+use mathlib.Core.Bool.{Bool, true, false, cond}
 use mathlib.Core.Logic.{⊎-elim}
-use Prim.Native.Nat.{ℕ, zero, suc, _+_, _<_}
-use native.Mathlib.Nat.{le-of-suc-le-suc, not-suc-le-zero, eq-or-lt-of-le}
+use Prim.Native.Nat.{ℕ, zero, suc, _+_, _≤_, _<_, zero-le}
+use native.Mathlib.Nat.{le-refl, le-of-suc-le-suc, not-suc-le-zero, eq-or-lt-of-le}
 use native.Mathlib.Omega.{arith}
 use Rattle.numbers.specs.Below.{allBelow, countBelow}
-use Rattle.numbers.proofs.Bools.{and-left, and-right, and-both}
+use Rattle.numbers.proofs.Bools.{and-left, and-right, and-both, never}
 
 pub all-each : (k : ℕ) (f : ℕ → Bool) → allBelow k f ≡ true → (n : ℕ) → n < k → f n ≡ true
 unfolding allBelow
@@ -27,3 +27,28 @@ unfolding countBelow
 count-same zero f g e = refl
 count-same (suc k) f g e =
     ap₂ (λ (p : Bool) (x : ℕ). cond p 1 0 + x) (e k (omega arith)) (count-same k f g (λ n h. e n (omega arith)))
+
+digit-le : (p q : Bool) → (p ≡ true → q ≡ true) → cond p 1 0 ≤ cond q 1 0
+digit-le true true f = le-refl 1
+digit-le true false f = absurd (never (f refl) refl)
+digit-le false true f = zero-le
+digit-le false false f = le-refl 0
+
+-- what holds of more numbers has the greater count
+pub count-le : (k : ℕ) (f g : ℕ → Bool) → ((n : ℕ) → f n ≡ true → g n ≡ true) → countBelow k f ≤ countBelow k g
+unfolding countBelow
+count-le zero f g e = le-refl 0
+count-le (suc k) f g e = omega (arith, digit-le (f k) (g k) (e k), count-le k f g e)
+
+pub count-lt :
+    (k : ℕ) (f g : ℕ → Bool) → ((n : ℕ) → f n ≡ true → g n ≡ true) → (m : ℕ) → m < k → f m ≡ false → g m ≡ true → countBelow k f < countBelow k g
+unfolding countBelow
+count-lt zero f g e m h out within = absurd (not-suc-le-zero h)
+count-lt (suc k) f g e m h out within =
+    ⊎-elim
+    (λ q.
+    let none : _≡_ {A = ℕ} (cond (f k) 1 0) 0 = ap (λ (b : Bool). cond {A = ℕ} b 1 0) (ap f (sym q) ∙ out) in
+    let one : _≡_ {A = ℕ} (cond (g k) 1 0) 1 = ap (λ (b : Bool). cond {A = ℕ} b 1 0) (ap g (sym q) ∙ within) in
+    omega (arith, count-le k f g e))
+    (λ l. omega (arith, digit-le (f k) (g k) (e k), count-lt k f g e m l out within))
+    (eq-or-lt-of-le (le-of-suc-le-suc h))

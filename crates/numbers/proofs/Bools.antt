@@ -1,5 +1,6 @@
 -- Truth values: what a yes of a compound test says of its parts. Assumes nothing.
 use mathlib.Core.Path.{_≡_, refl, sym, _∙_}
+use mathlib.Core.Logic.{_⊎_, inl, inr}
 use mathlib.Core.Bool.{Bool, true, false, not, _&&_, _||_, true≢false}
 
 pub and-left : (p q : Bool) → (p && q) ≡ true → p ≡ true
@@ -40,6 +41,16 @@ pub both-ways : (p q : Bool) → (p ≡ true → q ≡ true) → (q ≡ true →
 both-ways true q f g = sym (f refl)
 both-ways false true f g = g refl
 both-ways false false f g = refl
+
+-- a test holds or fails
+pub either : (p : Bool) → (p ≡ true) ⊎ (p ≡ false)
+either true = inl refl
+either false = inr refl
+
+-- which of two tests held
+pub or-either : (p q : Bool) → (p || q) ≡ true → (p ≡ true) ⊎ (q ≡ true)
+or-either true q e = inl refl
+or-either false q e = inr e
 
 -- no test both holds and fails
 pub never : {p : Bool} → p ≡ true → p ≡ false → ⊥

@@ -11,7 +11,7 @@ use lib.Dec.{eqb, ltb, lit<}
 use lib.Arith.{lt-one}
 use lib.Bits.{bitAnd, bitOr, and-le-l, or-lt}
 use lib.Count.{ones, ones-cat}
-use lib.Pow.{pow-pos, pow-lt, shl-exact, split, shr-lt}
+use lib.Pow.{pow-pos, pow-lt, split, shr-lt}
 use Rattle.numbers.specs.declared.Tag.{Tag}
 use Rattle.numbers.specs.declared.labels.Label.{Label}
 use Rattle.numbers.specs.Below.{countBelow}
@@ -19,12 +19,8 @@ use Rattle.numbers.specs.Sets.{contains}
 use Rattle.numbers.specs.Labels.{member, labelOf, within, withTag, withoutTag, union, namesOnlyMade, size}
 use Rattle.numbers.proofs.Bools.{and-right, both-ways}
 use Rattle.numbers.proofs.Below.{count-same}
-use Rattle.numbers.proofs.Sets.{digit, contains-and, contains-or, contains-not, contains-one, contains-mod, same-members, is-setOf}
+use Rattle.numbers.proofs.Sets.{digit, one-shl, contains-add, contains-and, contains-or, contains-not, contains-one, contains-mod, same-members, is-setOf}
 use Rattle.numbers.proofs.LabelLaws.{Is64Bit, within-is, made-below}
-
--- the code's `1 << n`
-one-shl : (n : ℕ) → n < 64 → (1 * 2 ^ n) % 2 ^ 64 ≡ 2 ^ n
-one-shl n h = shl-exact 1 n 64 (lit< tt) (omega arith) ∙ one-mul (2 ^ n)
 
 -- a label is the one that f picks if it has those tags
 is-labelOf : (x : ℕ) (f : ℕ → Bool) → x < 2 ^ 64 → ((n : ℕ) → n < 64 → contains x n ≡ f n) → record { 0 = x } ≡ labelOf f
@@ -34,9 +30,8 @@ module _ (l : Label) (t : Tag) (fits : Is64Bit l) where
   pub or-with : t .0 < 64 → record { 0 = bitOr (l .0) ((1 * 2 ^ t .0) % 2 ^ 64) } ≡ withTag l t
   unfolding withTag
   or-with h =
-      ap (λ (w : ℕ). record { 0 = bitOr (l .0) w }) (one-shl (t .0) h)
-      ∙ is-labelOf (bitOr (l .0) (2 ^ t .0)) (λ n. member l n || eqb n (t .0)) (or-lt 64 (l .0) (2 ^ t .0) fits (pow-lt h))
-      (λ n g. contains-or (l .0) (2 ^ t .0) n ∙ ap (λ (p : Bool). member l n || p) (contains-one (t .0) n))
+      is-labelOf (bitOr (l .0) ((1 * 2 ^ t .0) % 2 ^ 64)) (λ n. member l n || eqb n (t .0))
+      (or-lt 64 (l .0) ((1 * 2 ^ t .0) % 2 ^ 64) fits (mod-lt (1 * 2 ^ t .0) (pow-pos 64))) (λ n g. contains-add (l .0) (t .0) h n)
 
   pub with-above : 64 ≤ t .0 → l ≡ withTag l t
   unfolding withTag

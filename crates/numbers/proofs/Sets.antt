@@ -2,14 +2,14 @@
 use mathlib.Core.Path.{_≡_, refl, sym, ap, _∙_, subst}
 use mathlib.Core.Bool.{Bool, true, false, cond, not, _&&_, _||_}
 use mathlib.Core.Logic.{_⊎_, inl, inr}
-use Prim.Native.Nat.{ℕ, zero, suc, _+_, _-_, _/_, _%_, _^_, _<_}
+use Prim.Native.Nat.{ℕ, zero, suc, _+_, _-_, _*_, _/_, _%_, _^_, _<_}
 use native.Mathlib.Nat.{mod-lt, div-one, div-div-eq-div-mul, pow-succ', pow-suc, zero-div, le-of-suc-le-suc, not-suc-le-zero, mul-div-cancel, div-eq-of-lt, zero-add, one-mul, eq-or-lt-of-le}
 use native.Mathlib.Omega.{arith}
 use borrow.Author.Tests.{eq-eqb, ne-eqb}
 use lib.Dec.{eqb, eqb·suc-zero, eqb·zero-suc, eqb·suc-suc, lit<}
 use lib.Arith.{lt-one}
-use lib.Pow.{field, mod-mod-pow}
-use lib.Bits.{bitAnd, bitOr, and-shr, and-mod, or-shr, or-mod, or-shifted}
+use lib.Pow.{field, mod-mod-pow, shl-exact}
+use lib.Bits.{bitAnd, bitOr, and-shr, and-mod, or-shr, or-mod, or-shifted, and-mask}
 use Rattle.numbers.specs.Sets.{contains, setOf}
 
 -- a binary digit is 0 or 1, so what holds of both holds of it
@@ -122,3 +122,18 @@ contains-setOf (suc k) f n h = pick (f k) refl (eq-or-lt-of-le (le-of-suc-le-suc
 -- so a number below 2 ^ k whose members are those that f picks is that set
 pub is-setOf : (k x : ℕ) (f : ℕ → Bool) → x < 2 ^ k → ((n : ℕ) → n < k → contains x n ≡ f n) → x ≡ setOf k f
 is-setOf k x f h e = same-members k x (setOf k f) h (setOf-lt k f) (λ n l. e n l ∙ sym (contains-setOf k f n l))
+
+-- ---- the code's own words for a set x below 2 ^ 64 and a number n below 64
+
+-- `1 << n`
+pub one-shl : (n : ℕ) → n < 64 → (1 * 2 ^ n) % 2 ^ 64 ≡ 2 ^ n
+one-shl n h = shl-exact 1 n 64 (lit< tt) (omega arith) ∙ one-mul (2 ^ n)
+
+-- `(x >> n) & 1 == 1`
+pub contains-test : (x n : ℕ) → eqb (bitAnd (x / 2 ^ n) 1) 1 ≡ contains x n
+contains-test x n = ap (λ (y : ℕ). eqb y 1) (and-mask (x / 2 ^ n) 1)
+
+-- `x | (1 << t)`
+pub contains-add : (x t : ℕ) → t < 64 → (n : ℕ) → contains (bitOr x ((1 * 2 ^ t) % 2 ^ 64)) n ≡ (contains x n || eqb n t)
+contains-add x t h n =
+    ap (λ (w : ℕ). contains (bitOr x w) n) (one-shl t h) ∙ contains-or x (2 ^ t) n ∙ ap (λ (p : Bool). contains x n || p) (contains-one t n)

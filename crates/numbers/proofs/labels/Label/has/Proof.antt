@@ -1,10 +1,8 @@
 -- `numbers::labels::Label::has` meets its contract. Assumes nothing.
-use mathlib.Core.Path.{sym, ap}
-use Prim.Native.Nat.{ℕ, _/_, _^_}
+use mathlib.Core.Path.{sym}
 use native.Mathlib.Omega.{arith}
-use lib.Bits.{and-mask}
-use lib.Dec.{eqb}
 use borrow.Author.Needs.{needs}
+use Rattle.numbers.proofs.Sets.{contains-test}
 use Rattle.numbers.proofs.LabelLaws.{member-above}
 use Rattle.numbers.proofs.labels.Label.has.Statement.{statement}
 use Rattle.numbers.proofs.labels.Label.has.Tie as tie
@@ -16,7 +14,7 @@ shr-result : tie.Need-shr-result
 shr-result c = search needs
 
 returns : tie.Need-returns
-returns c = ap (λ (x : ℕ). eqb x 1) (and-mask (c .before .before .args .self .0 / 2 ^ c .before .before .args .t .0) 1)
+returns c = contains-test (c .before .before .args .self .0) (c .before .before .args .t .0)
 
 returns-2 : tie.Need-returns-2
 returns-2 c = sym (member-above (c .before .before .args .self) (omega arith) (c .before .before .args .t .0) (omega arith))

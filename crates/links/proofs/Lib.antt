@@ -1,0 +1,3 @@
+pub mod PathLaws
+pub mod LinkLaws
+pub mod WalkLaws

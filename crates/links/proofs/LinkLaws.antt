@@ -1,0 +1,83 @@
+-- A list of numbers and the links in it: a link stands in `linksFrom base xs` exactly where one of the numbers says so. Assumes nothing.
+use mathlib.Core.Path.{_≡_, refl, sym, ap, subst, _∙_}
+use mathlib.Core.Bool.{Bool, true, false, cond, _&&_}
+use mathlib.Core.List.{List, [], _∷_}
+use mathlib.Core.Logic.{⊎-elim}
+use Prim.Native.Nat.{ℕ, zero, suc, _+_, _-_, _/_, _%_, _≤_, _<_}
+use native.Mathlib.Nat.{le-of-suc-le-suc, not-suc-le-zero}
+use native.Mathlib.Omega.{arith}
+use borrow.Author.Tests.{leb-true, ltb-true, le-leb, lt-ltb}
+use lib.Dec.{ltb, leb}
+use lib.ListN.{length, getD}
+use Rattle.numbers.proofs.Bools.{and-left, and-right, and-both, either, never}
+use Rattle.links.specs.Paths.{Link, joins}
+use Rattle.links.specs.Links.{isLinkOf, linksFrom}
+use Rattle.links.proofs.PathLaws.{joins-head, joins-tail, joins-cases}
+
+-- the number x is the link from p to q of the graph with this base
+pub record Names (base x p q : ℕ) : Type 0 where
+  pub near : x / 256 ≡ base + p
+  pub far : x % 256 ≡ q
+  pub from-low : p < 64
+  pub to-low : q < 64
+
+names-test : {base x p q : ℕ} → Names base x p q → isLinkOf base x ≡ true
+names-test {base} {x} {p} {q} w =
+    and-both (leb base (x / 256)) (ltb (x / 256) (base + 64) && ltb (x % 256) 64) (le-leb base (x / 256) (omega (arith, w .near)))
+    (and-both (ltb (x / 256) (base + 64)) (ltb (x % 256) 64) (lt-ltb (x / 256) (base + 64) (omega (arith, w .near, w .from-low)))
+    (lt-ltb (x % 256) 64 (omega (arith, w .far, w .to-low))))
+
+test-names : (base x : ℕ) → isLinkOf base x ≡ true → Names base x (x / 256 - base) (x % 256)
+test-names base x e =
+    let low : base ≤ x / 256 = leb-true base (x / 256) (and-left (leb base (x / 256)) (ltb (x / 256) (base + 64) && ltb (x % 256) 64) e) in
+    let rest : (ltb (x / 256) (base + 64) && ltb (x % 256) 64) ≡ true = and-right (leb base (x / 256)) (ltb (x / 256) (base + 64) && ltb (x % 256) 64) e in
+    let high : x / 256 < base + 64 = ltb-true (x / 256) (base + 64) (and-left (ltb (x / 256) (base + 64)) (ltb (x % 256) 64) rest) in
+    let far : x % 256 < 64 = ltb-true (x % 256) 64 (and-right (ltb (x / 256) (base + 64)) (ltb (x % 256) 64) rest) in
+    record { near = omega arith; far = refl; from-low = omega arith; to-low = far }
+
+-- the link that a number names
+abbrev said : ℕ → ℕ → Link
+said base x = record { from = x / 256 - base; to = x % 256 }
+
+module _ (base x : ℕ) (xs : List ℕ) where
+  linksFrom-in : isLinkOf base x ≡ true → linksFrom base (x ∷ xs) ≡ said base x ∷ linksFrom base xs
+  unfolding linksFrom
+  linksFrom-in e = rw e
+
+  linksFrom-out : isLinkOf base x ≡ false → linksFrom base (x ∷ xs) ≡ linksFrom base xs
+  unfolding linksFrom
+  linksFrom-out e = rw e
+
+tail-joins : (base x : ℕ) (xs : List ℕ) (p q : ℕ) → joins (linksFrom base xs) p q ≡ true → joins (linksFrom base (x ∷ xs)) p q ≡ true
+tail-joins base x xs p q e =
+    ⊎-elim
+    (λ t. subst (λ (ls : List Link). joins ls p q ≡ true) (sym (linksFrom-in base x xs t)) (joins-tail (said base x) (linksFrom base xs) p q e))
+    (λ t. subst (λ (ls : List Link). joins ls p q ≡ true) (sym (linksFrom-out base x xs t)) e)
+    (either (isLinkOf base x))
+
+-- a number that names a link puts it into the list
+pub number-joins : (base : ℕ) (xs : List ℕ) (i p q : ℕ) → i < length xs → Names base (getD xs i 0) p q → joins (linksFrom base xs) p q ≡ true
+number-joins base [] i p q h w = absurd (not-suc-le-zero h)
+number-joins base (x ∷ xs) zero p q h w =
+    let from : x / 256 - base ≡ p = omega (arith, w .near) in
+    subst (λ (ls : List Link). joins ls p q ≡ true) (sym (linksFrom-in base x xs (names-test w)))
+    (subst (λ (a : ℕ). joins (said base x ∷ linksFrom base xs) a q ≡ true) from
+    (subst (λ (b : ℕ). joins (said base x ∷ linksFrom base xs) (x / 256 - base) b ≡ true) (w .far) (joins-head (said base x) (linksFrom base xs))))
+number-joins base (x ∷ xs) (suc i) p q h w = tail-joins base x xs p q (number-joins base xs i p q (le-of-suc-le-suc h) w)
+
+-- and every link of the list is named by one of the numbers
+pub joins-number : (base : ℕ) (xs : List ℕ) (p q : ℕ) → joins (linksFrom base xs) p q ≡ true → (i : ℕ) × (i < length xs) × Names base (getD xs i 0) p q
+unfolding joins linksFrom
+joins-number base [] p q e = absurd (never e refl)
+joins-number base (x ∷ xs) p q e =
+    ⊎-elim
+    (λ t.
+    ⊎-elim
+    (λ h. (0, omega arith, subst (λ (a : ℕ). Names base x a q) (h .0) (subst (λ (b : ℕ). Names base x (x / 256 - base) b) (h .1) (test-names base x t))))
+    (λ h. later (joins-number base xs p q h))
+    (joins-cases (said base x) (linksFrom base xs) p q (subst (λ (ls : List Link). joins ls p q ≡ true) (linksFrom-in base x xs t) e)))
+    (λ t. later (joins-number base xs p q (subst (λ (ls : List Link). joins ls p q ≡ true) (linksFrom-out base x xs t) e)))
+    (either (isLinkOf base x))
+  where
+    later : (i : ℕ) × (i < length xs) × Names base (getD xs i 0) p q → (i : ℕ) × (i < length (x ∷ xs)) × Names base (getD (x ∷ xs) i 0) p q
+    later w = (suc (w .0), omega (arith, w .1), w .2)

@@ -1,0 +1,30 @@
+-- The lent lists (01, "Things and numbers"): "Principal links (from, to) and tag links (tag, from, to): a list of link records that
+-- the caller lends .. in order of acceptance". Here a record is one number: P * 256 + Q for a principal link (P, Q), and
+-- (T * 256 + P) * 256 + Q for a link (T, P, Q) of a tag. Assumes nothing.
+use mathlib.Core.Bool.{Bool, cond, _&&_}
+use mathlib.Core.List.{List, [], _∷_}
+use Prim.Native.Nat.{ℕ, _+_, _-_, _*_, _/_, _%_}
+use lib.Dec.{ltb, leb}
+use lib.ListN.{take}
+use Rattle.links.specs.declared.lists.Graph.{Graph}
+use Rattle.links.specs.declared.lists.Graph.the-variants.{Principals, OfTag}
+use Rattle.links.specs.Paths.{Link}
+
+-- x is a link of the graph with this base, and both ends name principals
+abbrev pub isLinkOf : ℕ → ℕ → Bool
+isLinkOf base x = leb base (x / 256) && (ltb (x / 256) (base + 64) && ltb (x % 256) 64)
+
+-- the links of a graph among these numbers, in their order
+unfoldable pub linksFrom : ℕ → List ℕ → List Link
+linksFrom base [] = []
+linksFrom base (x ∷ xs) =
+    cond (isLinkOf base x) (record { from = x / 256 - base; to = x % 256 } ∷ linksFrom base xs) (linksFrom base xs)
+
+-- where a graph's numbers start
+abbrev pub baseOf : Graph → ℕ
+baseOf Principals = 0
+baseOf (OfTag t) = t .0 * 256
+
+-- the links of a graph in a list of which the first n places are in use
+abbrev pub linksIn : List ℕ → ℕ → Graph → List Link
+linksIn l n g = linksFrom (baseOf g) (take n l)

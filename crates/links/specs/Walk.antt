@@ -1,0 +1,34 @@
+-- What the two functions of the walk promise each other. A set of principals is one number (`contains`). Assumes nothing.
+use mathlib.Core.Path.{_≡_}
+use mathlib.Core.Bool.{true, false}
+use mathlib.Core.List.{List}
+use mathlib.Core.Logic.{_⊎_}
+use Prim.Native.Nat.{ℕ, _<_}
+use Rattle.numbers.specs.Sets.{contains}
+use Rattle.links.specs.Paths.{Link, joins, Path}
+
+-- all of s is in r
+abbrev pub Within : ℕ → ℕ → Type 0
+Within s r = (q : ℕ) → contains s q ≡ true → contains r q ≡ true
+
+-- what is new in r was reached from p, a principal
+abbrev pub Sound : List Link → ℕ → ℕ → ℕ → Type 0
+Sound ls s p r = (q : ℕ) → contains r q ≡ true → (contains s q ≡ true) ⊎ ((p < 64) × Path ls p q)
+
+-- what is new in r has the far ends of its links in r
+abbrev pub Closed : List Link → ℕ → ℕ → Type 0
+Closed ls s r = (a b : ℕ) → contains s a ≡ false → contains r a ≡ true → joins ls a b ≡ true → contains r b ≡ true
+
+-- r is what is seen after p was visited, where s was seen before
+pub record Visited (ls : List Link) (s p r : ℕ) : Type 0 where
+  pub kept : Within s r
+  pub sound : Sound ls s p r
+  pub there : p < 64 → contains r p ≡ true
+  pub closed : Closed ls s r
+
+-- r is what is seen after the links of p were followed
+pub record Followed (ls : List Link) (s p r : ℕ) : Type 0 where
+  pub kept : Within s r
+  pub sound : Sound ls s p r
+  pub ends : (b : ℕ) → joins ls p b ≡ true → contains r b ≡ true
+  pub closed : Closed ls s r
