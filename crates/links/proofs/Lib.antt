@@ -1,3 +1,5 @@
 pub mod PathLaws
 pub mod LinkLaws
 pub mod WalkLaws
+pub mod LedTo
+pub mod AuthorityLaws

@@ -3,15 +3,18 @@ use mathlib.Core.Path.{_≡_, refl, sym, ap, subst, _∙_}
 use mathlib.Core.Bool.{Bool, true, false, cond, _&&_}
 use mathlib.Core.List.{List, [], _∷_}
 use mathlib.Core.Logic.{⊎-elim}
-use Prim.Native.Nat.{ℕ, zero, suc, _+_, _-_, _/_, _%_, _≤_, _<_}
+use Prim.Native.Nat.{ℕ, zero, suc, _+_, _-_, _/_, _%_, _^_, _≤_, _<_, min}
 use native.Mathlib.Nat.{le-of-suc-le-suc, not-suc-le-zero}
 use native.Mathlib.Omega.{arith}
-use borrow.Author.Tests.{leb-true, ltb-true, le-leb, lt-ltb}
+use borrow.Author.Tests.{leb-true, leb-false, ltb-true, le-leb, lt-ltb}
 use lib.Dec.{ltb, leb}
-use lib.ListN.{length, getD}
+use lib.ListN.{length, getD, take}
+use lib.Seq.{take-all, take-length}
 use Rattle.numbers.proofs.Bools.{and-left, and-right, and-both, either, never}
 use Rattle.links.specs.Paths.{Link, joins}
-use Rattle.links.specs.Links.{isLinkOf, linksFrom}
+use Rattle.links.specs.declared.lists.Graph.{Graph}
+use Rattle.links.specs.declared.lists.Graph.the-variants.{Principals, OfTag}
+use Rattle.links.specs.Links.{isLinkOf, linksFrom, baseOf}
 use Rattle.links.proofs.PathLaws.{joins-head, joins-tail, joins-cases}
 
 -- the number x is the link from p to q of the graph with this base
@@ -81,3 +84,20 @@ joins-number base (x ∷ xs) p q e =
   where
     later : (i : ℕ) × (i < length xs) × Names base (getD xs i 0) p q → (i : ℕ) × (i < length (x ∷ xs)) × Names base (getD (x ∷ xs) i 0) p q
     later w = (suc (w .0), omega (arith, w .1), w .2)
+
+-- ---- the places in use, and where a graph's numbers start
+
+-- a count over the number of places is as good as that number
+pub take-used : (l : List ℕ) (n : ℕ) → take (min n (length l)) l ≡ take n l
+take-used l n =
+    ⊎-elim
+    (λ t. ap (λ (k : ℕ). take k l) (let e : min n (length l) ≡ n = omega (arith, leb-true n (length l) t) in e))
+    (λ t.
+    let more : length l < n = leb-false n (length l) t in
+    ap (λ (k : ℕ). take k l) (let e : min n (length l) ≡ length l = omega arith in e) ∙ take-length l ∙ sym (take-all n l (omega arith)))
+    (either (leb n (length l)))
+
+-- a base that is one 32-bit number leaves room for a principal
+pub baseOf-room : (g : Graph) → baseOf g < 2 ^ 32 → baseOf g + 64 ≤ 4294967296
+baseOf-room Principals h = omega arith
+baseOf-room (OfTag t) h = omega arith

@@ -65,7 +65,7 @@ module _ (s p : ℕ) (h : p < 64) where
 closed-self : (ls : List Link) (s : ℕ) → Closed ls s s
 closed-self ls s a b out in-s e = absurd (never in-s out)
 
-closed-trans : (ls : List Link) (s r t : ℕ) → Closed ls s r → Within r t → Closed ls r t → Closed ls s t
+pub closed-trans : (ls : List Link) (s r t : ℕ) → Closed ls s r → Within r t → Closed ls r t → Closed ls s t
 closed-trans ls s r t f g h a b out in-t e =
     ⊎-elim (λ x. g b (f a b out x e)) (λ x. h a b x in-t e) (either (contains r a))
 

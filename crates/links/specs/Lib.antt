@@ -1,3 +1,4 @@
 pub mod Paths
 pub mod Links
+pub mod Authority
 pub mod Walk

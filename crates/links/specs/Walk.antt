@@ -1,11 +1,12 @@
 -- What the two functions of the walk promise each other. A set of principals is one number (`contains`). Assumes nothing.
 use mathlib.Core.Path.{_≡_}
-use mathlib.Core.Bool.{true, false}
+use mathlib.Core.Bool.{true, false, _&&_}
 use mathlib.Core.List.{List}
 use mathlib.Core.Logic.{_⊎_}
 use Prim.Native.Nat.{ℕ, _<_}
-use Rattle.numbers.specs.Sets.{contains}
-use Rattle.links.specs.Paths.{Link, joins, Path}
+use Rattle.numbers.specs.Below.{anyBelow}
+use Rattle.numbers.specs.Sets.{contains, setOf}
+use Rattle.links.specs.Paths.{Link, joins, Path, leads}
 
 -- all of s is in r
 abbrev pub Within : ℕ → ℕ → Type 0
@@ -32,3 +33,11 @@ pub record Followed (ls : List Link) (s p r : ℕ) : Type 0 where
   pub sound : Sound ls s p r
   pub ends : (b : ℕ) → joins ls p b ≡ true → contains r b ≡ true
   pub closed : Closed ls s r
+
+-- what paths lead to from p, a set of principals
+unfoldable pub ledTo : List Link → ℕ → ℕ
+ledTo ls p = setOf 64 (leads ls p)
+
+-- what paths lead to from some principal of s
+unfoldable pub ledToFrom : List Link → ℕ → ℕ
+ledToFrom ls s = setOf 64 (λ q. anyBelow 64 (λ p. contains s p && leads ls p q))

@@ -1,12 +1,12 @@
 -- The laws of `allBelow` and `countBelow`. Assumes nothing.
 use mathlib.Core.Path.{_≡_, refl, sym, ap, ap₂, _∙_}
-use mathlib.Core.Bool.{Bool, true, false, cond}
-use mathlib.Core.Logic.{⊎-elim}
+use mathlib.Core.Bool.{Bool, true, false, cond, _||_}
+use mathlib.Core.Logic.{_↔_, ⊎-elim}
 use Prim.Native.Nat.{ℕ, zero, suc, _+_, _≤_, _<_, zero-le}
 use native.Mathlib.Nat.{le-refl, le-of-suc-le-suc, not-suc-le-zero, eq-or-lt-of-le}
 use native.Mathlib.Omega.{arith}
-use Rattle.numbers.specs.Below.{allBelow, countBelow}
-use Rattle.numbers.proofs.Bools.{and-left, and-right, and-both, never}
+use Rattle.numbers.specs.Below.{allBelow, anyBelow, countBelow}
+use Rattle.numbers.proofs.Bools.{and-left, and-right, and-both, or-left, or-right, or-either, never}
 
 pub all-each : (k : ℕ) (f : ℕ → Bool) → allBelow k f ≡ true → (n : ℕ) → n < k → f n ≡ true
 unfolding allBelow
@@ -21,6 +21,29 @@ pub each-all : (k : ℕ) (f : ℕ → Bool) → ((n : ℕ) → n < k → f n ≡
 unfolding allBelow
 each-all zero f e = refl
 each-all (suc k) f e = and-both (f k) (allBelow k f) (e k (omega arith)) (each-all k f (λ n h. e n (omega arith)))
+
+-- f holds of some number below k exactly where there is one
+pub any-is : (k : ℕ) (f : ℕ → Bool) → (anyBelow k f ≡ true) ↔ ((n : ℕ) × (n < k) × (f n ≡ true))
+unfolding anyBelow
+any-is k f = (found k, λ w. some k (w .0) (w .1) (w .2))
+  where
+    found : (k : ℕ) → anyBelow k f ≡ true → (n : ℕ) × (n < k) × (f n ≡ true)
+    found zero e = absurd (never e refl)
+    found (suc k) e =
+        ⊎-elim (λ h. (k, omega arith, h)) (λ h. let w = found k h in (w .0, omega (arith, w .1), w .2)) (or-either (f k) (anyBelow k f) e)
+
+    some : (k n : ℕ) → n < k → f n ≡ true → anyBelow k f ≡ true
+    some zero n h e = absurd (not-suc-le-zero h)
+    some (suc k) n h e =
+        ⊎-elim
+        (λ q. or-left (f k) (anyBelow k f) (ap f (sym q) ∙ e))
+        (λ l. or-right (f k) (anyBelow k f) (some k n l e))
+        (eq-or-lt-of-le (le-of-suc-le-suc h))
+
+pub any-same : (k : ℕ) (f g : ℕ → Bool) → ((n : ℕ) → n < k → f n ≡ g n) → anyBelow k f ≡ anyBelow k g
+unfolding anyBelow
+any-same zero f g e = refl
+any-same (suc k) f g e = ap₂ _||_ (e k (omega arith)) (any-same k f g (λ n h. e n (omega arith)))
 
 pub count-same : (k : ℕ) (f g : ℕ → Bool) → ((n : ℕ) → n < k → f n ≡ g n) → countBelow k f ≡ countBelow k g
 unfolding countBelow

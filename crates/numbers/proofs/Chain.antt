@@ -2,7 +2,7 @@
 -- failed and stop at one that held, and the two sets answer the return of a function that makes the same tests in the same order:
 -- `search steps` where the tests are the code's own, `search calls` where some are what a call answered. Assumes nothing.
 use mathlib.Core.Path.{_≡_, sym, subst}
-use mathlib.Core.Bool.{Bool, true, false, not, cond}
+use mathlib.Core.Bool.{Bool, true, false, not, cond, _||_}
 use Prim.Native.Nat.{ℕ, _<_, _≤_}
 use lib.Dec.{ltb}
 use borrow.Author.Tests.{lt-ltb, le-ltb, le-leb, lt-leb, eq-eqb, ne-eqb}
@@ -14,6 +14,13 @@ skip {A} {b} x {y} {r} e q = subst (λ (t : Bool). r ≡ cond t x y) (sym e) q
 -- the test held: this is the answer
 pub hit : {A : Type 0} {b : Bool} {x r : A} (y : A) → b ≡ true → r ≡ x → r ≡ cond b x y
 hit {A} {b} {x} {r} y e q = subst (λ (t : Bool). r ≡ cond t x y) (sym e) q
+
+-- the same for a yes that has two grounds
+pub or-hit : {p r : Bool} (q : Bool) → p ≡ true → r ≡ true → r ≡ (p || q)
+or-hit {p} {r} q e h = subst (λ (t : Bool). r ≡ (t || q)) (sym e) h
+
+pub or-skip : {p q r : Bool} → p ≡ false → r ≡ q → r ≡ (p || q)
+or-skip {p} {q} {r} e h = subst (λ (t : Bool). r ≡ (t || q)) (sym e) h
 
 -- a test that is a call's answer a, of which the call's contract says that it is b
 pub by-yes : {a b t : Bool} → a ≡ b → a ≡ t → b ≡ t

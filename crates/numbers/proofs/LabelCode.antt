@@ -19,7 +19,7 @@ use Rattle.numbers.specs.Sets.{contains}
 use Rattle.numbers.specs.Labels.{member, labelOf, within, withTag, withoutTag, union, namesOnlyMade, size}
 use Rattle.numbers.proofs.Bools.{and-right, both-ways}
 use Rattle.numbers.proofs.Below.{count-same}
-use Rattle.numbers.proofs.Sets.{digit, one-shl, contains-add, contains-and, contains-or, contains-not, contains-one, contains-mod, same-members, is-setOf}
+use Rattle.numbers.proofs.Sets.{shr-zero, digit, one-shl, contains-add, contains-and, contains-or, contains-not, contains-one, contains-mod, same-members, is-setOf}
 use Rattle.numbers.proofs.LabelLaws.{Is64Bit, within-is, made-below}
 
 -- a label is the one that f picks if it has those tags
@@ -79,10 +79,7 @@ pub shr-made : (l : Label) (count : ℕ) → Is64Bit l → eqb (l .0 / 2 ^ count
 shr-made l count fits = both-ways (eqb (l .0 / 2 ^ count) 0) (ltb (l .0) (2 ^ count)) there back ∙ sym (made-below l count fits)
   where
     there : eqb (l .0 / 2 ^ count) 0 ≡ true → ltb (l .0) (2 ^ count) ≡ true
-    there e =
-        lt-ltb (l .0) (2 ^ count)
-        (subst (λ (x : ℕ). l .0 < x) (one-mul (2 ^ count))
-        (div-lt-iff-lt-mul (pow-pos count) .0 (subst (λ (x : ℕ). x < 1) (sym (eqb-true (l .0 / 2 ^ count) 0 e)) (lit< tt))))
+    there e = lt-ltb (l .0) (2 ^ count) (shr-zero (l .0) count (eqb-true (l .0 / 2 ^ count) 0 e))
 
     back : ltb (l .0) (2 ^ count) ≡ true → eqb (l .0 / 2 ^ count) 0 ≡ true
     back e = eq-eqb (l .0 / 2 ^ count) 0 (div-eq-of-lt (ltb-true (l .0) (2 ^ count) e))

@@ -3,12 +3,12 @@ use mathlib.Core.Path.{_≡_, refl, sym, ap, _∙_, subst}
 use mathlib.Core.Bool.{Bool, true, false, cond, not, _&&_, _||_}
 use mathlib.Core.Logic.{_⊎_, inl, inr}
 use Prim.Native.Nat.{ℕ, zero, suc, _+_, _-_, _*_, _/_, _%_, _^_, _<_}
-use native.Mathlib.Nat.{mod-lt, div-one, div-div-eq-div-mul, pow-succ', pow-suc, zero-div, le-of-suc-le-suc, not-suc-le-zero, mul-div-cancel, div-eq-of-lt, zero-add, one-mul, eq-or-lt-of-le}
+use native.Mathlib.Nat.{div-lt-iff-lt-mul, mod-lt, div-one, div-div-eq-div-mul, pow-succ', pow-suc, zero-div, le-of-suc-le-suc, not-suc-le-zero, mul-div-cancel, div-eq-of-lt, zero-add, one-mul, eq-or-lt-of-le}
 use native.Mathlib.Omega.{arith}
 use borrow.Author.Tests.{eq-eqb, ne-eqb}
 use lib.Dec.{eqb, eqb·suc-zero, eqb·zero-suc, eqb·suc-suc, lit<}
 use lib.Arith.{lt-one}
-use lib.Pow.{field, mod-mod-pow, shl-exact}
+use lib.Pow.{pow-pos, field, mod-mod-pow, shl-exact}
 use lib.Bits.{bitAnd, bitOr, and-shr, and-mod, or-shr, or-mod, or-shifted, and-mask}
 use Rattle.numbers.specs.Sets.{contains, setOf}
 
@@ -137,3 +137,7 @@ contains-test x n = ap (λ (y : ℕ). eqb y 1) (and-mask (x / 2 ^ n) 1)
 pub contains-add : (x t : ℕ) → t < 64 → (n : ℕ) → contains (bitOr x ((1 * 2 ^ t) % 2 ^ 64)) n ≡ (contains x n || eqb n t)
 contains-add x t h n =
     ap (λ (w : ℕ). contains (bitOr x w) n) (one-shl t h) ∙ contains-or x (2 ^ t) n ∙ ap (λ (p : Bool). contains x n || p) (contains-one t n)
+
+-- nothing is left above k
+pub shr-zero : (x k : ℕ) → x / 2 ^ k ≡ 0 → x < 2 ^ k
+shr-zero x k e = subst (λ (y : ℕ). x < y) (one-mul (2 ^ k)) (div-lt-iff-lt-mul (pow-pos k) .0 (subst (λ (y : ℕ). y < 1) (sym e) (lit< tt)))

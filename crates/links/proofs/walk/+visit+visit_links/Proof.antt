@@ -76,14 +76,15 @@ pub +visit+visit-links-spec : {M : Type 1} → statement M
     let pre = c .before .before .before .before .before .pre .1 in
     let k = c .before .before .before .loop .k in
     let s = c .before .before .before .loop .s in
-    let w = c .before .before .before .loop .inv .1 in
-    (omega arith,
-    ⊎-elim
-    (λ m. subst (λ (r : ℕ). Following (a .links .now) (a .n) (a .base) (a .p) (a .seen) r (k + 1)) (sym (m .2))
-    (following-link (a .links .now) (a .n) (a .base) (a .p) (a .seen) s k w (m .1 .result) (c .before .before .loop-test .taken) (pre .0) (pre .2) (m .0 .taken) (m .1 .ensures)))
-    (λ m. subst (λ (r : ℕ). Following (a .links .now) (a .n) (a .base) (a .p) (a .seen) r (k + 1)) (sym (m .1))
-    (following-past (a .links .now) (a .n) (a .base) (a .p) (a .seen) s k w (m .0 .left)))
-    (c .if1 .came)))
+    let w = c .before .before .before .loop .inv .1 in (
+      omega arith,
+      ⊎-elim
+          (λ m. subst (λ (r : ℕ). Following (a .links .now) (a .n) (a .base) (a .p) (a .seen) r (k + 1)) (sym (m .2))
+          (following-link (a .links .now) (a .n) (a .base) (a .p) (a .seen) s k w (m .1 .result) (c .before .before .loop-test .taken) (pre .0) (pre .2) (m .0 .taken) (m .1 .ensures)))
+          (λ m. subst (λ (r : ℕ). Following (a .links .now) (a .n) (a .base) (a .p) (a .seen) r (k + 1)) (sym (m .1))
+          (following-past (a .links .now) (a .n) (a .base) (a .p) (a .seen) s k w (m .0 .left)))
+          (c .if1 .came),
+    ))
     (λ c.
     let a = c .before .before .before .args in
     let pre = c .before .before .before .pre .1 in
