@@ -1,21 +1,17 @@
 -- The laws of authority: what computes is what 01 words, more links take no authority away, and the public has none. Assumes nothing.
-use mathlib.Core.Path.{_≡_, refl, sym, ap, subst, _∙_}
-use mathlib.Core.Bool.{Bool, true, false, _&&_, _||_}
+use mathlib.Core.Path.{_≡_, ap, subst, _∙_}
+use mathlib.Core.Bool.{Bool, true, _&&_}
 use mathlib.Core.List.{List}
-use mathlib.Core.Logic.{_⊎_, _↔_, inl, inr, ⊎-elim}
-use Prim.Native.Nat.{ℕ, _≤_, _<_}
-use native.Mathlib.Omega.{arith}
+use mathlib.Core.Logic.{_↔_, inl, inr, ⊎-elim}
+use Prim.Native.Nat.{ℕ, _<_}
 use Rattle.numbers.specs.declared.Principal.{Principal}
-use Rattle.numbers.specs.Below.{anyBelow}
 use Rattle.numbers.specs.Sets.{contains}
-use Rattle.numbers.proofs.Bools.{and-left, and-right, and-both, or-left, or-right, or-either, either, never}
+use Rattle.numbers.proofs.Bools.{and-left, and-right, and-both, or-left, or-right, or-either}
 use Rattle.numbers.proofs.Below.{any-is, any-same}
 use Rattle.numbers.proofs.Sets.{contains-setOf}
-use Rattle.links.specs.declared.lists.Graph.the-variants.{OfTag}
 use Rattle.links.specs.declared.authority.Lineage.{Lineage}
 use Rattle.links.specs.declared.authority.Lineage.the-variants.{Supertag, Subtag}
-use Rattle.links.specs.Paths.{Link, joins, Path, here, along, leads}
-use Rattle.links.specs.Links.{linksFrom, linksIn}
+use Rattle.links.specs.Paths.{Link, leads}
 use Rattle.links.specs.Walk.{ledTo, ledToFrom}
 use Rattle.links.specs.Authority.{ActsForSome, Authoritative, linksOf, actsForSome, authoritative}
 use Rattle.links.proofs.PathLaws.{Among, leads-is, leads-grows}

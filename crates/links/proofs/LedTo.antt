@@ -1,14 +1,14 @@
 -- What the walk has seen at its end is what paths lead to. Assumes nothing.
-use mathlib.Core.Path.{_≡_, refl, sym, ap, subst, _∙_}
+use mathlib.Core.Path.{_≡_, refl, sym, subst, _∙_}
 use mathlib.Core.Bool.{Bool, true, false, _&&_}
 use mathlib.Core.List.{List}
 use mathlib.Core.Logic.{_⊎_, inl, inr, ⊎-elim}
-use Prim.Native.Nat.{ℕ, _+_, _/_, _%_, _^_, _≤_, _<_}
+use Prim.Native.Nat.{ℕ, _+_, _/_, _^_, _≤_, _<_}
 use native.Mathlib.Nat.{eq-or-lt-of-le, div-eq-of-lt, lt-of-lt-of-le}
 use native.Mathlib.Omega.{arith}
-use borrow.Author.Tests.{eq-eqb, ne-eqb, leb-true, leb-false}
+use borrow.Author.Tests.{leb-true, leb-false}
 use lib.Dec.{leb}
-use lib.Pow.{pow-pos, pow-mono, shr-shr}
+use lib.Pow.{pow-pos, pow-mono}
 use Rattle.numbers.specs.Below.{anyBelow}
 use Rattle.numbers.specs.Sets.{contains, setOf}
 use Rattle.numbers.proofs.Bools.{and-left, and-right, and-both, both-ways, either, never}
@@ -16,7 +16,7 @@ use Rattle.numbers.proofs.Below.{any-is}
 use Rattle.numbers.proofs.Sets.{contains-above, contains-setOf, setOf-lt, is-setOf, shr-zero}
 use Rattle.links.specs.Paths.{Link, joins, Path, here, along, leads}
 use Rattle.links.specs.Links.{linksFrom}
-use Rattle.links.specs.Walk.{Within, Closed, Visited, ledTo, ledToFrom}
+use Rattle.links.specs.Walk.{Closed, Visited, ledTo, ledToFrom}
 use Rattle.links.proofs.PathLaws.{leads-is}
 use Rattle.links.proofs.LinkLaws.{joins-number}
 use Rattle.links.proofs.WalkLaws.{closed-trans}

@@ -5,16 +5,18 @@ use mathlib.Core.List.{List, [], _∷_}
 use mathlib.Core.Logic.{⊎-elim}
 use Prim.Native.Nat.{ℕ, zero, suc, _+_, _-_, _/_, _%_, _^_, _≤_, _<_, min}
 use native.Mathlib.Nat.{le-of-suc-le-suc, not-suc-le-zero}
+use native.Mathlib.Numerals.{add-one}
 use native.Mathlib.Omega.{arith}
-use borrow.Author.Tests.{leb-true, leb-false, ltb-true, le-leb, lt-ltb}
+use borrow.Author.Tests.{eq-eqb, ne-eqb, leb-true, leb-false, ltb-true, le-leb, lt-ltb}
 use lib.Dec.{ltb, leb}
-use lib.ListN.{length, getD, take}
-use lib.Seq.{take-all, take-length}
+use lib.ListN.{length, getD, take, drop, length-take, drop-of-length-le}
+use lib.Seq.{take-all, take-length, drop-cons, getD-take}
 use Rattle.numbers.proofs.Bools.{and-left, and-right, and-both, either, never}
 use Rattle.links.specs.Paths.{Link, joins}
+use Rattle.links.specs.declared.lists.Found.the-variants.{At, Nothing}
 use Rattle.links.specs.declared.lists.Graph.{Graph}
 use Rattle.links.specs.declared.lists.Graph.the-variants.{Principals, OfTag}
-use Rattle.links.specs.Links.{isLinkOf, linksFrom, baseOf}
+use Rattle.links.specs.Links.{isLinkOf, linksFrom, baseOf, findFrom}
 use Rattle.links.proofs.PathLaws.{joins-head, joins-tail, joins-cases}
 
 -- the number x is the link from p to q of the graph with this base
@@ -97,7 +99,39 @@ take-used l n =
     ap (λ (k : ℕ). take k l) (let e : min n (length l) ≡ length l = omega arith in e) ∙ take-length l ∙ sym (take-all n l (omega arith)))
     (either (leb n (length l)))
 
+pub drop-used : (l : List ℕ) (n : ℕ) → drop (min n (length l)) l ≡ drop n l
+drop-used l n =
+    ⊎-elim
+    (λ t. ap (λ (k : ℕ). drop k l) (let e : min n (length l) ≡ n = omega (arith, leb-true n (length l) t) in e))
+    (λ t.
+    let more : length l < n = leb-false n (length l) t in
+    drop-of-length-le l {i = min n (length l)} (omega arith) ∙ sym (drop-of-length-le l {i = n} (omega arith)))
+    (either (leb n (length l)))
+
 -- a base that is one 32-bit number leaves room for a principal
 pub baseOf-room : (g : Graph) → baseOf g < 2 ^ 32 → baseOf g + 64 ≤ 4294967296
 baseOf-room Principals h = omega arith
 baseOf-room (OfTag t) h = omega arith
+
+-- ---- a search, place by place
+
+module _ (l : List ℕ) (n x i : ℕ) where
+  ahead : i < min n (length l) → drop i (take n l) ≡ getD l i 0 ∷ drop (suc i) (take n l)
+  ahead h =
+      let there : i < length (take n l) = omega (arith, length-take n l) in
+      drop-cons (take n l) i 0 there ∙ ap (λ (y : ℕ). y ∷ drop (suc i) (take n l)) (getD-take n l i 0 (omega arith))
+
+  pub find-hit : i < min n (length l) → getD l i 0 ≡ x → findFrom i (drop i (take n l)) x ≡ At i
+  unfolding findFrom
+  find-hit h e = ap (λ (xs : List ℕ). findFrom i xs x) (ahead h) ∙ ap (λ (b : Bool). cond b (At i) (findFrom (suc i) (drop (suc i) (take n l)) x)) (eq-eqb (getD l i 0) x e)
+
+  pub find-past : i < min n (length l) → (getD l i 0 ≡ x → ⊥) → findFrom i (drop i (take n l)) x ≡ findFrom (i + 1) (drop (i + 1) (take n l)) x
+  unfolding findFrom
+  find-past h e =
+      ap (λ (xs : List ℕ). findFrom i xs x) (ahead h)
+      ∙ ap (λ (b : Bool). cond b (At i) (findFrom (suc i) (drop (suc i) (take n l)) x)) (ne-eqb (getD l i 0) x e)
+      ∙ ap (λ (j : ℕ). findFrom j (drop j (take n l)) x) (sym (add-one i))
+
+  pub find-end : min n (length l) ≤ i → findFrom i (drop i (take n l)) x ≡ Nothing
+  unfolding findFrom
+  find-end h = ap (λ (xs : List ℕ). findFrom i xs x) (drop-of-length-le (take n l) {i = i} (omega (arith, length-take n l)))

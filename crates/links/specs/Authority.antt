@@ -5,7 +5,6 @@ use mathlib.Core.Logic.{_⊎_}
 use Prim.Native.Nat.{ℕ}
 use Rattle.numbers.specs.declared.Principal.{Principal}
 use Rattle.numbers.specs.Below.{anyBelow}
-use Rattle.numbers.specs.Sets.{contains, setOf}
 use Rattle.links.specs.declared.lists.Graph.the-variants.{OfTag}
 use Rattle.links.specs.declared.authority.Rooted.{Rooted}
 use Rattle.links.specs.declared.authority.Lineage.{Lineage}

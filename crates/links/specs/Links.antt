@@ -2,10 +2,13 @@
 -- the caller lends .. in order of acceptance". Here a record is one number: P * 256 + Q for a principal link (P, Q), and
 -- (T * 256 + P) * 256 + Q for a link (T, P, Q) of a tag. Assumes nothing.
 use mathlib.Core.Bool.{Bool, cond, _&&_}
-use mathlib.Core.List.{List, [], _∷_}
-use Prim.Native.Nat.{ℕ, _+_, _-_, _*_, _/_, _%_}
-use lib.Dec.{ltb, leb}
-use lib.ListN.{take}
+use mathlib.Core.List.{List, [], _∷_, _++_}
+use Prim.Native.Nat.{ℕ, suc, _+_, _-_, _*_, _/_, _%_, min}
+use lib.Dec.{eqb, ltb, leb}
+use lib.ListN.{length, take, drop, set}
+use Rattle.numbers.specs.declared.Principal.{Principal}
+use Rattle.links.specs.declared.lists.Found.{Found}
+use Rattle.links.specs.declared.lists.Found.the-variants.{At, Nothing}
 use Rattle.links.specs.declared.lists.Graph.{Graph}
 use Rattle.links.specs.declared.lists.Graph.the-variants.{Principals, OfTag}
 use Rattle.links.specs.Paths.{Link}
@@ -28,3 +31,24 @@ baseOf (OfTag t) = t .0 * 256
 -- the links of a graph in a list of which the first n places are in use
 abbrev pub linksIn : List ℕ → ℕ → Graph → List Link
 linksIn l n g = linksFrom (baseOf g) (take n l)
+
+-- the number of a link
+abbrev pub linkNumber : ℕ → Principal → Principal → ℕ
+linkNumber base p q = (base + p .0) * 256 + q .0
+
+-- the first place of x, counted from i
+unfoldable pub findFrom : ℕ → List ℕ → ℕ → Found
+findFrom i [] x = Nothing
+findFrom i (y ∷ ys) x = cond (eqb y x) (At i) (findFrom (suc i) ys x)
+
+-- the first place of x
+abbrev pub findIn : List ℕ → ℕ → Found
+findIn ys x = findFrom 0 ys x
+
+-- "in order of acceptance": x at place n, where there is one
+abbrev pub appended : List ℕ → ℕ → ℕ → List ℕ
+appended l n x = cond (ltb n (length l)) (set l n x) l
+
+-- "A removal closes the gap": of the first n places, the one at i is gone, and the last becomes zero
+unfoldable pub removed : List ℕ → ℕ → ℕ → List ℕ
+removed l n i = cond (ltb i (min n (length l))) (take i l ++ (drop (suc i) (take n l) ++ (0 ∷ drop n l))) l

@@ -1,8 +1,10 @@
 // The lent lists. A principal link (P, Q) is the number P * 256 + Q, and a link (T, P, Q) of a tag is
 // (T * 256 + P) * 256 + Q.
 ghost use mathlib.Core.Path.{_≡_};
-ghost use Prim.Native.Nat.{min};
-ghost use Rattle.links.specs.Links.{baseOf};
+ghost use Prim.Native.Nat.{_*_, min};
+ghost use lib.ListN.{take};
+ghost use Rattle.links.specs.Links.{baseOf, linkNumber, findIn, appended, removed};
+use numbers::Principal;
 use numbers::Tag;
 
 // Which links of a list are meant: the list's own, where it is that of the principal links, or those of
@@ -27,4 +29,65 @@ pub fn used(places: usize, count: usize) -> usize
     ensures { λ r. ⌜ r ≡ min count places ⌝ }
 {
     if count < places { count } else { places }
+}
+
+// Where a link stands in a list.
+pub enum Found {
+    At(usize),
+    Nothing,
+}
+
+// The number of a principal link.
+pub fn principal_link(p: Principal, q: Principal) -> u32
+    ensures { λ r. ⌜ r ≡ linkNumber 0 p q ⌝ }
+{
+    p.0 as u32 * 256 + q.0 as u32
+}
+
+// The number of a link of a tag.
+pub fn tag_link(t: Tag, p: Principal, q: Principal) -> u32
+    ensures { λ r. ⌜ r ≡ linkNumber (t .0 * 256) p q ⌝ }
+{
+    (t.0 as u32 * 256 + p.0 as u32) * 256 + q.0 as u32
+}
+
+// Where a link stands among the first n places.
+pub fn find(links: &[u32], n: usize, x: u32) -> Found
+    ensures { λ r. ⌜ r ≡ findIn (take n (now (links .entry))) x ⌝ }
+{
+    let end = used(links.len(), n);
+    let mut i = 0;
+    while i < end {
+        if links[i] == x {
+            return Found::At(i);
+        }
+        i += 1;
+    }
+    Found::Nothing
+}
+
+// A link more, at place n. A full list stays as it is.
+pub fn append(links: &mut [u32], n: usize, x: u32)
+    ensures { λ _. ⌜ now (links .exit) ≡ appended (now (links .entry)) n x ⌝ }
+{
+    if n < links.len() {
+        links[n] = x;
+    }
+}
+
+// The link at place i of the n in use is taken out, those after it move down, and the last place becomes zero.
+pub fn remove(links: &mut [u32], n: usize, i: usize)
+    ensures { λ _. ⌜ now (links .exit) ≡ removed (now (links .entry)) n i ⌝ }
+{
+    let end = used(links.len(), n);
+    if end <= i {
+        return;
+    }
+    let last = end - 1;
+    let mut k = i;
+    while k < last {
+        links[k] = links[k + 1];
+        k += 1;
+    }
+    links[last] = 0;
 }

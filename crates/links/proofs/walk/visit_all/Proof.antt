@@ -1,12 +1,12 @@
 -- `links::walk::visit_all` meets its contract: the loop has gathered what is led to from the principals below p. Assumes nothing.
-use mathlib.Core.Path.{_≡_, refl, sym, ap, subst, _∙_}
+use mathlib.Core.Path.{_≡_, sym, ap, subst, _∙_}
 use mathlib.Core.Logic.{⊎-elim}
-use Prim.Native.Nat.{ℕ, _+_, _/_, _%_, _^_, _≤_, _<_}
-use native.Mathlib.Nat.{div-one, div-eq-of-lt, lt-of-lt-of-le}
+use Prim.Native.Nat.{ℕ, _+_, _/_, _%_, _^_, _<_}
+use native.Mathlib.Nat.{div-one}
 use native.Mathlib.Omega.{arith}
 use borrow.Author.Tests.{eq-eqb, ne-eqb}
 use lib.ListN.{take}
-use lib.Pow.{pow-mono, shr-shr}
+use lib.Pow.{shr-shr}
 use Rattle.links.specs.Links.{linksFrom}
 use Rattle.links.proofs.LedTo.{linksFrom-low, Gathered, gathered-none, gathered-past, gathered-visit, gathered-is, some-left}
 use Rattle.links.proofs.walk.visit_all.Statement.{statement}
