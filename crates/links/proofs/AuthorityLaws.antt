@@ -1,20 +1,25 @@
 -- The laws of authority: what computes is what 01 words, more links take no authority away, and the public has none. Assumes nothing.
 use mathlib.Core.Path.{_≡_, ap, subst, _∙_}
-use mathlib.Core.Bool.{Bool, true, _&&_}
+use mathlib.Core.Bool.{Bool, true, _&&_, false}
 use mathlib.Core.List.{List}
 use mathlib.Core.Logic.{_↔_, inl, inr, ⊎-elim}
 use Prim.Native.Nat.{ℕ, _<_}
 use Rattle.numbers.specs.declared.Principal.{Principal}
 use Rattle.numbers.specs.Sets.{contains}
-use Rattle.numbers.proofs.Bools.{and-left, and-right, and-both, or-left, or-right, or-either}
+use Rattle.numbers.proofs.Bools.{and-left, and-right, and-both, or-left, or-right, or-either, either}
 use Rattle.numbers.proofs.Below.{any-is, any-same}
 use Rattle.numbers.proofs.Sets.{contains-setOf}
+use Rattle.numbers.specs.Below.{anyBelow}
+use Rattle.numbers.specs.Numbers.{public}
+use Rattle.links.specs.Links.{linksIn}
+use Rattle.links.specs.declared.lists.Graph.the-variants.{OfTag}
+use Rattle.links.specs.declared.lists.Graph.{Graph}
 use Rattle.links.specs.declared.authority.Lineage.{Lineage}
 use Rattle.links.specs.declared.authority.Lineage.the-variants.{Supertag, Subtag}
-use Rattle.links.specs.Paths.{Link, leads}
+use Rattle.links.specs.Paths.{Link, leads, joins}
 use Rattle.links.specs.Walk.{ledTo, ledToFrom}
 use Rattle.links.specs.Authority.{ActsForSome, Authoritative, linksOf, actsForSome, authoritative}
-use Rattle.links.proofs.PathLaws.{Among, leads-is, leads-grows}
+use Rattle.links.proofs.PathLaws.{Among, leads-is, leads-grows, path-unlinked}
 use Rattle.links.proofs.LedTo.{LowEnds, linksFrom-low, path-low, contains-ledToFrom}
 
 -- the code's two walks: from the root, and from all that they counted
@@ -75,3 +80,31 @@ actsForSome-grows ls ms gs hs f g root p e =
           (leads-grows gs hs g (root .0) n (and-left (leads gs (root .0) n) (leads ls n (p .0)) (w .2)))
           (leads-grows ls ms f n (p .0) (and-right (leads gs (root .0) n) (leads ls n (p .0)) (w .2))),
     )
+
+pub authoritative-grows :
+    (ls ms : List Link) (l k : List ℕ) (m n : ℕ) → Among ls ms → ((g : Graph) → Among (linksIn l m g) (linksIn k n g)) →
+    (x : Lineage) (p : Principal) → authoritative ls l m x p ≡ true → authoritative ms k n x p ≡ true
+authoritative-grows ls ms l k m n f g (Supertag t) p e = actsForSome-grows ls ms (linksOf l m t) (linksOf k n t) f (g (OfTag (t .tag))) (t .root) p e
+authoritative-grows ls ms l k m n f g (Subtag t above) p e =
+    let a = actsForSome ms (linksOf k n t) (t .root) p in
+    let b = actsForSome ms (linksOf k n above) (above .root) p in
+    ⊎-elim
+    (λ x. or-left a b (actsForSome-grows ls ms (linksOf l m t) (linksOf k n t) f (g (OfTag (t .tag))) (t .root) p x))
+    (λ x. or-right a b (actsForSome-grows ls ms (linksOf l m above) (linksOf k n above) f (g (OfTag (above .tag))) (above .root) p x))
+    (or-either (actsForSome ls (linksOf l m t) (t .root) p) (actsForSome ls (linksOf l m above) (above .root) p) e)
+
+-- ---- the public
+
+-- where no link leads to the public, and no root is the public, the public acts for no counted node
+pub public-has-none :
+    (ls gs : List Link) (root p : Principal) → ((q : ℕ) → joins ls q public ≡ false) → ((q : ℕ) → joins gs q public ≡ false) →
+    (root .0 ≡ public → ⊥) → p .0 ≡ public → actsForSome ls gs root p ≡ false
+unfolding actsForSome
+public-has-none ls gs root p none-p none-t made is-public =
+    ⊎-elim
+    (λ e.
+    let w = any-is 64 (λ n. leads gs (root .0) n && leads ls n (p .0)) .0 e in
+    let node = path-unlinked ls public none-p (leads-is ls (w .0) (p .0) .0 (and-right (leads gs (root .0) (w .0)) (leads ls (w .0) (p .0)) (w .2))) is-public in
+    absurd (made (path-unlinked gs public none-t (leads-is gs (root .0) (w .0) .0 (and-left (leads gs (root .0) (w .0)) (leads ls (w .0) (p .0)) (w .2))) node)))
+    (λ e. e)
+    (either (anyBelow 64 (λ n. leads gs (root .0) n && leads ls n (p .0))))

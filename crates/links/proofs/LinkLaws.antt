@@ -41,15 +41,15 @@ test-names base x e =
     record { near = omega arith; far = refl; from-low = omega arith; to-low = far }
 
 -- the link that a number names
-abbrev said : ℕ → ℕ → Link
+abbrev pub said : ℕ → ℕ → Link
 said base x = record { from = x / 256 - base; to = x % 256 }
 
 module _ (base x : ℕ) (xs : List ℕ) where
-  linksFrom-in : isLinkOf base x ≡ true → linksFrom base (x ∷ xs) ≡ said base x ∷ linksFrom base xs
+  pub linksFrom-in : isLinkOf base x ≡ true → linksFrom base (x ∷ xs) ≡ said base x ∷ linksFrom base xs
   unfolding linksFrom
   linksFrom-in e = rw e
 
-  linksFrom-out : isLinkOf base x ≡ false → linksFrom base (x ∷ xs) ≡ linksFrom base xs
+  pub linksFrom-out : isLinkOf base x ≡ false → linksFrom base (x ∷ xs) ≡ linksFrom base xs
   unfolding linksFrom
   linksFrom-out e = rw e
 

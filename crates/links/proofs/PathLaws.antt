@@ -1,7 +1,7 @@
 -- The laws of paths: `leads` computes them, more links make more of them, and neither the order of a list nor a link that stands
 -- twice matters. Assumes nothing.
 use mathlib.Core.Path.{_≡_, refl, sym, subst}
-use mathlib.Core.Bool.{true, _&&_}
+use mathlib.Core.Bool.{true, false, _&&_}
 use mathlib.Core.List.{List, [], _∷_}
 use mathlib.Core.Logic.{_⊎_, _↔_, inl, inr, ⊎-elim}
 use Prim.Native.Nat.{ℕ}
@@ -100,3 +100,19 @@ leads-grows ls ms f p q e = path-leads ms p q (path-grows f (leads-path ls p q e
 -- lists with the same links give the same answers, whatever their order
 pub leads-same : (ls ms : List Link) → Among ls ms → Among ms ls → (p q : ℕ) → leads ls p q ≡ leads ms p q
 leads-same ls ms f g p q = both-ways (leads ls p q) (leads ms p q) (leads-grows ls ms f p q) (leads-grows ms ls g p q)
+
+-- taking a link out takes away exactly the paths that went over it
+pub path-removed :
+    (l : Link) (ls ms : List Link) → Among ls (l ∷ ms) → Among (l ∷ ms) ls → (p q : ℕ) → Path ls p q ↔ (Path ms p q ⊎ (Path ms p (l .from) × Path ms (l .to) q))
+path-removed l ls ms f g p q =
+    ((λ w. path-split l ms (path-grows f w)),
+    (λ w.
+    path-grows g
+    (⊎-elim (path-grows (joins-tail l ms))
+    (λ v. path-joined (path-grows (joins-tail l ms) (v .0)) (along (l .to) (joins-head l ms) (path-grows (joins-tail l ms) (v .1))))
+    w)))
+
+-- no path leads to where no link does, but from there
+pub path-unlinked : (ls : List Link) (z : ℕ) → ((p : ℕ) → joins ls p z ≡ false) → {p q : ℕ} → Path ls p q → q ≡ z → p ≡ z
+path-unlinked ls z none here e = e
+path-unlinked ls z none (along {p} q h w) e = absurd (never (subst (λ (x : ℕ). joins ls p x ≡ true) (path-unlinked ls z none w e) h) (none p))

@@ -1,4 +1,5 @@
 pub mod Paths
 pub mod Links
 pub mod Authority
+pub mod Cycles
 pub mod Walk

@@ -4,6 +4,7 @@
 // places in use. The functions take slices of any length, counts that lie and numbers of any size: a
 // link one of whose ends is 64 or more names no principal, and counts for nothing.
 mod authority;
+mod cycles;
 mod lists;
 mod walk;
 
@@ -12,6 +13,7 @@ pub use authority::Rooted;
 pub use authority::acts_for;
 pub use authority::authoritative;
 pub use authority::counted_node;
+pub use cycles::closes_cycle;
 pub use lists::Found;
 pub use lists::Graph;
 pub use lists::append;
