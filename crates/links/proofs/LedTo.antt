@@ -32,7 +32,7 @@ none : (q : ℕ) → contains 0 q ≡ false
 none q = contains-above 0 q (pow-pos q)
 
 -- no number of 64 or more is in a set
-high-out : (s q : ℕ) → s < 2 ^ 64 → contains s q ≡ true → q < 64
+pub high-out : (s q : ℕ) → s < 2 ^ 64 → contains s q ≡ true → q < 64
 high-out s q h e =
     ⊎-elim
     (λ t. absurd (never e (contains-above s q (lt-of-lt-of-le h (pow-mono (leb-true 64 q t))))))

@@ -2,7 +2,8 @@ pub mod PathLaws
 pub mod CycleLaws
 pub mod LinkLaws
 pub mod WalkLaws
-pub mod Closing
-pub mod ListLaws
 pub mod LedTo
 pub mod AuthorityLaws
+pub mod Closing
+pub mod ListLaws
+pub mod RowLaws

@@ -3,3 +3,4 @@ pub mod Links
 pub mod Authority
 pub mod Cycles
 pub mod Walk
+pub mod Rows

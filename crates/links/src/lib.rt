@@ -6,6 +6,7 @@
 mod authority;
 mod cycles;
 mod lists;
+mod rows;
 mod walk;
 
 pub use authority::Lineage;

@@ -1,15 +1,18 @@
 -- Sets of numbers as one number: what the machine's operations do to the members. Assumes nothing.
 use mathlib.Core.Path.{_≡_, refl, sym, ap, _∙_, subst}
 use mathlib.Core.Bool.{Bool, true, false, cond, not, _&&_, _||_}
-use mathlib.Core.Logic.{_⊎_, inl, inr}
-use Prim.Native.Nat.{ℕ, zero, suc, _+_, _-_, _*_, _/_, _%_, _^_, _<_}
-use native.Mathlib.Nat.{div-lt-iff-lt-mul, mod-lt, div-one, div-div-eq-div-mul, pow-succ', pow-suc, zero-div, le-of-suc-le-suc, not-suc-le-zero, mul-div-cancel, div-eq-of-lt, zero-add, one-mul, eq-or-lt-of-le}
+use mathlib.Core.Logic.{_⊎_, inl, inr, ⊎-elim}
+use Prim.Native.Nat.{ℕ, zero, suc, _+_, _-_, _*_, _/_, _%_, _^_, _<_, _≤_}
+use native.Mathlib.Nat.{div-lt-iff-lt-mul, mod-lt, div-one, div-div-eq-div-mul, pow-succ', pow-suc, zero-div, le-of-suc-le-suc, not-suc-le-zero, mul-div-cancel, div-eq-of-lt, zero-add, one-mul, eq-or-lt-of-le, lt-of-lt-of-le, mod-eq-of-lt}
 use native.Mathlib.Omega.{arith}
-use borrow.Author.Tests.{eq-eqb, ne-eqb}
-use lib.Dec.{eqb, eqb·suc-zero, eqb·zero-suc, eqb·suc-suc, lit<}
+use borrow.Author.Tests.{eq-eqb, ne-eqb, leb-true, leb-false}
+use native.Mathlib.Numerals.{one-add}
+use lib.Dec.{eqb, eqb·suc-zero, eqb·zero-suc, eqb·suc-suc, lit<, leb}
 use lib.Arith.{lt-one}
-use lib.Pow.{pow-pos, field, mod-mod-pow, shl-exact}
+use lib.Pow.{pow-pos, field, mod-mod-pow, shl-exact, pow-mono, pow-lt, shr-lt}
 use lib.Bits.{bitAnd, bitOr, and-shr, and-mod, or-shr, or-mod, or-shifted, and-mask}
+use lib.Count.{trailingZeros, leadingZeros, under, leading-top}
+use Rattle.numbers.proofs.Bools.{either}
 use Rattle.numbers.specs.Sets.{contains, setOf}
 
 -- a binary digit is 0 or 1, so what holds of both holds of it
@@ -141,3 +144,46 @@ contains-add x t h n =
 -- nothing is left above k
 pub shr-zero : (x k : ℕ) → x / 2 ^ k ≡ 0 → x < 2 ^ k
 shr-zero x k e = subst (λ (y : ℕ). x < y) (one-mul (2 ^ k)) (div-lt-iff-lt-mul (pow-pos k) .0 (subst (λ (y : ℕ). y < 1) (sym e) (lit< tt)))
+
+-- `x & !(1 << t)`
+pub contains-take : (x t : ℕ) → x < 2 ^ 64 → t < 64 → (n : ℕ) → contains (bitAnd x ((2 ^ 64 - 1) - (1 * 2 ^ t) % 2 ^ 64)) n ≡ (contains x n && not (eqb n t))
+contains-take x t fits h n =
+    ⊎-elim
+    (λ g.
+    let high : 64 ≤ n = leb-true 64 n g in
+    contains-and x ((2 ^ 64 - 1) - (1 * 2 ^ t) % 2 ^ 64) n
+    ∙ ap (λ (b : Bool). b && contains ((2 ^ 64 - 1) - (1 * 2 ^ t) % 2 ^ 64) n) (contains-above x n (lt-of-lt-of-le fits (pow-mono high)))
+    ∙ sym (ap (λ (b : Bool). b && not (eqb n t)) (contains-above x n (lt-of-lt-of-le fits (pow-mono high)))))
+    (λ g.
+    ap (λ (w : ℕ). contains (bitAnd x ((2 ^ 64 - 1) - w)) n) (one-shl t h) ∙ contains-and x ((2 ^ 64 - 1) - 2 ^ t) n
+    ∙ ap (λ (b : Bool). contains x n && b) (contains-not 64 (2 ^ t) n (pow-lt h) (leb-false 64 n g) ∙ ap not (contains-one t n)))
+    (either (leb 64 n))
+
+-- ---- a member of a set that is not empty
+
+-- its lowest: `u64::trailing_zeros(x)`
+pub lowest : (k x : ℕ) → x < 2 ^ k → 0 < x → (trailingZeros k x < k) × (contains x (trailingZeros k x) ≡ true)
+unfolding trailingZeros
+lowest zero x h g = absurd (omega arith)
+lowest (suc k) x h g =
+    digit (λ d. x % 2 ≡ d → (under d (trailingZeros k (x / 2)) < suc k) × (contains x (under d (trailingZeros k (x / 2))) ≡ true))
+    (λ e.
+    let half = lowest k (x / 2) (omega (arith, pow-suc 2 k)) (omega arith) in
+    (omega (arith, half .0), contains-suc x (trailingZeros k (x / 2)) ∙ half .1))
+    (λ e. (omega arith, contains-zero x ∙ eq-eqb (x % 2) 1 e))
+    (x % 2) (mod-lt x (lit< tt)) refl
+
+-- its highest: `63 - u64::leading_zeros(x)`
+pub highest : (k x : ℕ) → x < 2 ^ suc k → 0 < x → (k - leadingZeros (suc k) x < suc k) × (contains x (k - leadingZeros (suc k) x) ≡ true)
+highest k x h g =
+    let top = leading-top (suc k) x g h in
+    let j : ℕ = top .0 in
+    let place : k - leadingZeros (suc k) x ≡ j = omega (arith, top .1) in
+    (omega (arith, top .1),
+    subst (λ (m : ℕ). contains x m ≡ true) (sym place)
+    (eq-eqb (x / 2 ^ j % 2) 1
+    (mod-eq-of-lt (top-lt top)
+    ∙ digit (λ d. x / 2 ^ j ≡ d → d ≡ 1) (λ e. absurd (omega (arith, shr-zero x j e, top .2))) (λ e. refl) (x / 2 ^ j) (top-lt top) refl)))
+  where
+    top-lt : (t : (i : ℕ) × (leadingZeros (suc k) x + suc i ≡ suc k) × (2 ^ i ≤ x) × (x < 2 ^ suc i)) → x / 2 ^ t .0 < 2
+    top-lt t = shr-lt 1 (t .0) (subst (λ (m : ℕ). x < 2 ^ m) (sym (one-add (t .0))) (t .3))
