@@ -7,3 +7,4 @@ pub mod AuthorityLaws
 pub mod Closing
 pub mod ListLaws
 pub mod RowLaws
+pub mod FillLaws

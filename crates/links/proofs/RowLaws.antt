@@ -231,7 +231,7 @@ module _ (rows : List ℕ) (a starts r : ℕ) (fits : r < 2 ^ 64) (w : Stripped 
           noCycle-is ls .1
           (λ p q h path.
           never
-          (w .kept (setOf 64 onCycle) cycles-endless (λ x g. let next = cycles-endless x g in all x (next .0) (next .1)) p (cyclic p q h path))
+          (w .kept (setOf 64 onCycle) cycles-endless (λ x g. let next = cycles-endless x g in all x (next .0) (high-out (setOf 64 onCycle) x (setOf-lt 64 onCycle) g) (next .1)) p (cyclic p q h path))
           (ap (λ (x : ℕ). contains x p) (eqb-true r 0 e) ∙ contains-above 0 p (pow-pos p)))
 
       back : noCycle ls ≡ true → eqb r 0 ≡ true

@@ -4,3 +4,4 @@ pub mod Authority
 pub mod Cycles
 pub mod Walk
 pub mod Rows
+pub mod LinkRules

@@ -3,7 +3,7 @@
 use mathlib.Core.Path.{_≡_}
 use mathlib.Core.Bool.{true, cond}
 use mathlib.Core.List.{List, [], _∷_, _++_}
-use Prim.Native.Nat.{ℕ, zero, suc, _+_, _≤_}
+use Prim.Native.Nat.{ℕ, zero, suc, _+_, _≤_, _<_}
 use lib.ListN.{getD}
 use Rattle.numbers.specs.Sets.{contains}
 use Rattle.links.specs.Paths.{Link}
@@ -28,7 +28,7 @@ rowLinks rows a = linksUpTo rows a 64
 
 -- s has everyone whose row is not empty
 abbrev pub Leaving : List ℕ → ℕ → ℕ → Type 0
-Leaving rows a s = (p q : ℕ) → contains (row rows a p) q ≡ true → contains s p ≡ true
+Leaving rows a s = (p q : ℕ) → p < 64 → contains (row rows a p) q ≡ true → contains s p ≡ true
 
 -- ---- what the stripping of principals that lead nowhere promises
 

@@ -7,6 +7,7 @@ mod authority;
 mod cycles;
 mod lists;
 mod rows;
+mod rules;
 mod walk;
 
 pub use authority::Lineage;

@@ -1,9 +1,10 @@
 -- The laws of `allBelow` and `countBelow`. Assumes nothing.
 use mathlib.Core.Path.{_≡_, refl, sym, ap, ap₂, _∙_}
-use mathlib.Core.Bool.{Bool, true, false, cond, _||_}
+use mathlib.Core.Bool.{Bool, true, false, cond, _||_, _&&_}
 use mathlib.Core.Logic.{_↔_, ⊎-elim}
 use Prim.Native.Nat.{ℕ, zero, suc, _+_, _≤_, _<_, zero-le}
 use native.Mathlib.Nat.{le-refl, le-of-suc-le-suc, not-suc-le-zero, eq-or-lt-of-le}
+use native.Mathlib.Numerals.{add-one}
 use native.Mathlib.Omega.{arith}
 use Rattle.numbers.specs.Below.{allBelow, anyBelow, countBelow}
 use Rattle.numbers.proofs.Bools.{and-left, and-right, and-both, or-left, or-right, or-either, never}
@@ -21,6 +22,15 @@ pub each-all : (k : ℕ) (f : ℕ → Bool) → ((n : ℕ) → n < k → f n ≡
 unfolding allBelow
 each-all zero f e = refl
 each-all (suc k) f e = and-both (f k) (allBelow k f) (e k (omega arith)) (each-all k f (λ n h. e n (omega arith)))
+
+-- one number more, as a loop counts
+pub all-next : (k : ℕ) (f : ℕ → Bool) → allBelow (k + 1) f ≡ (f k && allBelow k f)
+unfolding allBelow
+all-next k f = ap (λ (n : ℕ). allBelow n f) (add-one k)
+
+pub any-next : (k : ℕ) (f : ℕ → Bool) → anyBelow (k + 1) f ≡ (f k || anyBelow k f)
+unfolding anyBelow
+any-next k f = ap (λ (n : ℕ). anyBelow n f) (add-one k)
 
 -- f holds of some number below k exactly where there is one
 pub any-is : (k : ℕ) (f : ℕ → Bool) → (anyBelow k f ≡ true) ↔ ((n : ℕ) × (n < k) × (f n ≡ true))

@@ -136,6 +136,11 @@ one-shl n h = shl-exact 1 n 64 (lit< tt) (omega arith) ∙ one-mul (2 ^ n)
 pub contains-test : (x n : ℕ) → eqb (bitAnd (x / 2 ^ n) 1) 1 ≡ contains x n
 contains-test x n = ap (λ (y : ℕ). eqb y 1) (and-mask (x / 2 ^ n) 1)
 
+-- `(x >> n) & 1 == 0`
+pub contains-test-not : (x n : ℕ) → eqb (bitAnd (x / 2 ^ n) 1) 0 ≡ not (contains x n)
+contains-test-not x n =
+    ap (λ (y : ℕ). eqb y 0) (and-mask (x / 2 ^ n) 1) ∙ digit (λ d. eqb d 0 ≡ not (eqb d 1)) refl refl (x / 2 ^ n % 2) (mod-lt (x / 2 ^ n) (lit< tt))
+
 -- `x | (1 << t)`
 pub contains-add : (x t : ℕ) → t < 64 → (n : ℕ) → contains (bitOr x ((1 * 2 ^ t) % 2 ^ 64)) n ≡ (contains x n || eqb n t)
 contains-add x t h n =
