@@ -32,11 +32,12 @@ module _ (f : Link → Bool) where
 -- the law that joins the two
 pub noCycle-is : (ls : List Link) → (noCycle ls ≡ true) ↔ NoCycle ls
 unfolding noCycle
-noCycle-is ls =
-    ((λ e p q h w. never (leads-is ls q p .1 w) (not-true (leads ls q p) (every-link (λ l. not (leads ls (l .to) (l .from))) ls e p q h))),
-    (λ f.
-    link-every (λ l. not (leads ls (l .to) (l .from))) ls
-    (λ p q h. ⊎-elim (λ e. absurd (f p q h (leads-is ls q p .0 e))) (λ e. ap not e) (either (leads ls q p)))))
+noCycle-is ls = (
+  (λ e p q h w. never (leads-is ls q p .1 w) (not-true (leads ls q p) (every-link (λ l. not (leads ls (l .to) (l .from))) ls e p q h))),
+  (λ f.
+      link-every (λ l. not (leads ls (l .to) (l .from))) ls
+      (λ p q h. ⊎-elim (λ e. absurd (f p q h (leads-is ls q p .0 e))) (λ e. ap not e) (either (leads ls q p)))),
+)
 
 -- fewer links have no cycle either
 pub noCycle-fewer : (ls ms : List Link) → Among ms ls → NoCycle ls → NoCycle ms

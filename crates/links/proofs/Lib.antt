@@ -6,5 +6,3 @@ pub mod LedTo
 pub mod AuthorityLaws
 pub mod Closing
 pub mod ListLaws
-pub mod RowLaws
-pub mod FillLaws

@@ -77,9 +77,9 @@ module _ (l : List ℕ) (n i : ℕ) (g : Graph) (h : i < n) (fits : n ≤ length
   unfolding removed
   removed-links =
       let size : length (front ++ back) ≡ n - 1 =
-        length-append front back
-        ∙ ap₂ (λ (x y : ℕ). x + y) (length-take-le i l (omega arith)) (length-drop (suc i) (take n l) ∙ ap (λ (x : ℕ). x - suc i) (length-take-le n l fits))
-        ∙ omega arith in
+      length-append front back
+      ∙ ap₂ (λ (x y : ℕ). x + y) (length-take-le i l (omega arith)) (length-drop (suc i) (take n l) ∙ ap (λ (x : ℕ). x - suc i) (length-take-le n l fits))
+      ∙ omega arith in
       ap (λ (b : Bool). linksFrom (baseOf g) (take (n - 1) (cond b (front ++ (back ++ (0 ∷ drop n l))) l))) (lt-ltb i (min n (length l)) (omega arith))
       ∙ ap (linksFrom (baseOf g))
       (ap (take (n - 1)) (sym (append-assoc front back (0 ∷ drop n l)))

@@ -104,13 +104,14 @@ leads-same ls ms f g p q = both-ways (leads ls p q) (leads ms p q) (leads-grows 
 -- taking a link out takes away exactly the paths that went over it
 pub path-removed :
     (l : Link) (ls ms : List Link) → Among ls (l ∷ ms) → Among (l ∷ ms) ls → (p q : ℕ) → Path ls p q ↔ (Path ms p q ⊎ (Path ms p (l .from) × Path ms (l .to) q))
-path-removed l ls ms f g p q =
-    ((λ w. path-split l ms (path-grows f w)),
-    (λ w.
-    path-grows g
-    (⊎-elim (path-grows (joins-tail l ms))
-    (λ v. path-joined (path-grows (joins-tail l ms) (v .0)) (along (l .to) (joins-head l ms) (path-grows (joins-tail l ms) (v .1))))
-    w)))
+path-removed l ls ms f g p q = (
+  (λ w. path-split l ms (path-grows f w)),
+  (λ w.
+      path-grows g
+      (⊎-elim (path-grows (joins-tail l ms))
+      (λ v. path-joined (path-grows (joins-tail l ms) (v .0)) (along (l .to) (joins-head l ms) (path-grows (joins-tail l ms) (v .1))))
+      w)),
+)
 
 -- no path leads to where no link does, but from there
 pub path-unlinked : (ls : List Link) (z : ℕ) → ((p : ℕ) → joins ls p z ≡ false) → {p q : ℕ} → Path ls p q → q ≡ z → p ≡ z

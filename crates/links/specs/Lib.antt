@@ -3,5 +3,3 @@ pub mod Links
 pub mod Authority
 pub mod Cycles
 pub mod Walk
-pub mod Rows
-pub mod LinkRules

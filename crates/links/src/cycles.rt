@@ -2,7 +2,6 @@
 ghost use mathlib.Core.Path.{_≡_};
 ghost use Rattle.links.specs.Links.{linksIn};
 ghost use Rattle.links.specs.Cycles.{closesCycle};
-
 use crate::lists::Graph;
 use crate::walk::leads;
 use numbers::Principal;

@@ -6,8 +6,6 @@
 mod authority;
 mod cycles;
 mod lists;
-mod rows;
-mod rules;
 mod walk;
 
 pub use authority::Lineage;

@@ -50,6 +50,11 @@ any-is k f = (found k, λ w. some k (w .0) (w .1) (w .2))
         (λ l. or-right (f k) (anyBelow k f) (some k n l e))
         (eq-or-lt-of-le (le-of-suc-le-suc h))
 
+pub all-same : (k : ℕ) (f g : ℕ → Bool) → ((n : ℕ) → n < k → f n ≡ g n) → allBelow k f ≡ allBelow k g
+unfolding allBelow
+all-same zero f g e = refl
+all-same (suc k) f g e = ap₂ _&&_ (e k (omega arith)) (all-same k f g (λ n h. e n (omega arith)))
+
 pub any-same : (k : ℕ) (f g : ℕ → Bool) → ((n : ℕ) → n < k → f n ≡ g n) → anyBelow k f ≡ anyBelow k g
 unfolding anyBelow
 any-same zero f g e = refl

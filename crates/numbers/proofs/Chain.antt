@@ -2,7 +2,7 @@
 -- failed and stop at one that held, and the two sets answer the return of a function that makes the same tests in the same order:
 -- `search steps` where the tests are the code's own, `search calls` where some are what a call answered. Assumes nothing.
 use mathlib.Core.Path.{_≡_, sym, subst}
-use mathlib.Core.Bool.{Bool, true, false, not, cond, _||_}
+use mathlib.Core.Bool.{Bool, true, false, not, cond, _&&_, _||_}
 use Prim.Native.Nat.{ℕ, _<_, _≤_}
 use lib.Dec.{ltb}
 use borrow.Author.Tests.{lt-ltb, le-ltb, le-leb, lt-leb, eq-eqb, ne-eqb}
@@ -21,6 +21,13 @@ or-hit {p} {r} q e h = subst (λ (t : Bool). r ≡ (t || q)) (sym e) h
 
 pub or-skip : {p q r : Bool} → p ≡ false → r ≡ q → r ≡ (p || q)
 or-skip {p} {q} {r} e h = subst (λ (t : Bool). r ≡ (t || q)) (sym e) h
+
+-- the same for a yes that needs both
+pub and-stop : {p r : Bool} (q : Bool) → p ≡ false → r ≡ false → r ≡ (p && q)
+and-stop {p} {r} q e h = subst (λ (t : Bool). r ≡ (t && q)) (sym e) h
+
+pub and-go : {p q r : Bool} → p ≡ true → r ≡ q → r ≡ (p && q)
+and-go {p} {q} {r} e h = subst (λ (t : Bool). r ≡ (t && q)) (sym e) h
 
 -- a test that is a call's answer a, of which the call's contract says that it is b
 pub by-yes : {a b t : Bool} → a ≡ b → a ≡ t → b ≡ t

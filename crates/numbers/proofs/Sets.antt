@@ -183,12 +183,13 @@ pub highest : (k x : ℕ) → x < 2 ^ suc k → 0 < x → (k - leadingZeros (suc
 highest k x h g =
     let top = leading-top (suc k) x g h in
     let j : ℕ = top .0 in
-    let place : k - leadingZeros (suc k) x ≡ j = omega (arith, top .1) in
-    (omega (arith, top .1),
-    subst (λ (m : ℕ). contains x m ≡ true) (sym place)
-    (eq-eqb (x / 2 ^ j % 2) 1
-    (mod-eq-of-lt (top-lt top)
-    ∙ digit (λ d. x / 2 ^ j ≡ d → d ≡ 1) (λ e. absurd (omega (arith, shr-zero x j e, top .2))) (λ e. refl) (x / 2 ^ j) (top-lt top) refl)))
+    let place : k - leadingZeros (suc k) x ≡ j = omega (arith, top .1) in (
+      omega (arith, top .1),
+      subst (λ (m : ℕ). contains x m ≡ true) (sym place)
+          (eq-eqb (x / 2 ^ j % 2) 1
+          (mod-eq-of-lt (top-lt top)
+          ∙ digit (λ d. x / 2 ^ j ≡ d → d ≡ 1) (λ e. absurd (omega (arith, shr-zero x j e, top .2))) (λ e. refl) (x / 2 ^ j) (top-lt top) refl)),
+    )
   where
     top-lt : (t : (i : ℕ) × (leadingZeros (suc k) x + suc i ≡ suc k) × (2 ^ i ≤ x) × (x < 2 ^ suc i)) → x / 2 ^ t .0 < 2
     top-lt t = shr-lt 1 (t .0) (subst (λ (m : ℕ). x < 2 ^ m) (sym (one-add (t .0))) (t .3))

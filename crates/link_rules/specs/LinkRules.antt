@@ -7,11 +7,11 @@ use Prim.Native.Nat.{ℕ, _+_, _*_, _/_, _%_, _<_}
 use lib.Dec.{eqb, ltb, leb}
 use lib.ListN.{length, getD}
 use Rattle.numbers.specs.Below.{allBelow, anyBelow}
-use Rattle.numbers.specs.Numbers.{public, linkPlaces}
+use Rattle.numbers.specs.Numbers.{public, linkPlaces, mostTags, mostPrincipals}
 use Rattle.numbers.specs.Sets.{contains}
 use Rattle.links.specs.declared.lists.Graph.the-variants.{OfTag}
 use Rattle.links.specs.Links.{linksIn}
 use Rattle.links.specs.Cycles.{noCycle}
 
 -- the three parts of a link's number
 abbrev pub tagIn : ℕ → ℕ
@@ -39,11 +39,12 @@ made l tags principals i = ltb (tagIn (at l i)) tags && (ltb (fromIn (at l i)) p
 abbrev pub notToPublic : List ℕ → ℕ → Bool
 notToPublic l i = not (eqb (toIn (at l i)) public)
 
-module _ (l : List ℕ) (n : ℕ) where
-  -- "a limit, or a lent list of other than 256 places"
-  abbrev pub inPlaces : Bool
-  inPlaces = eqb (length l) linkPlaces && leb n linkPlaces
+-- "a limit, or a lent list of other than 256 places"
+abbrev pub inLimits : ℕ → ℕ → ℕ → ℕ → Bool
+inLimits places n tags principals =
+    eqb places linkPlaces && (leb n linkPlaces && (leb tags mostTags && leb principals mostPrincipals))
 
+module _ (l : List ℕ) (n : ℕ) where
   -- "an unmade number"
   unfoldable pub allMade : ℕ → ℕ → Bool
   allMade tags principals = allBelow n (made l tags principals)
@@ -59,6 +60,11 @@ module _ (l : List ℕ) (n : ℕ) where
   -- "a link to the public"
   unfoldable pub noneToPublic : Bool
   noneToPublic = allBelow n (notToPublic l)
+
+  -- all of them; a list of principal links is one of a single tag
+  abbrev pub linksHold : ℕ → ℕ → Bool
+  linksHold tags principals =
+      inLimits (length l) n tags principals && (allMade tags principals && (noneCyclic tags && noneDoubled && noneToPublic))
 
   -- ---- rows that hold the links of the list: how doubled links and cycles are found
 

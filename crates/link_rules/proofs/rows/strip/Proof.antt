@@ -1,9 +1,9 @@
--- `links::rows::strip` meets its contract: the loop keeps every endless set. Assumes nothing.
+-- `link_rules::rows::strip` meets its contract: the loop keeps every endless set. Assumes nothing.
 use Prim.Native.Nat.{ℕ, _^_, _<_}
 use native.Mathlib.Omega.{arith}
-use Rattle.links.specs.Rows.{KeepsEndless}
-use Rattle.links.proofs.rows.strip.Statement.{statement}
-use Rattle.links.proofs.rows.strip.Tie as tie
+use Rattle.link_rules.specs.Rows.{KeepsEndless}
+use Rattle.link_rules.proofs.rows.strip.Statement.{statement}
+use Rattle.link_rules.proofs.rows.strip.Tie as tie
 
 abbrev Inv-loop : tie.InvT-loop
 Inv-loop rows at starts alive₀ alive = KeepsEndless rows at starts alive

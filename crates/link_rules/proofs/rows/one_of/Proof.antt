@@ -1,9 +1,9 @@
--- `links::rows::one_of` meets its contract. Assumes nothing.
+-- `link_rules::rows::one_of` meets its contract. Assumes nothing.
 use native.Mathlib.Omega.{arith}
 use lib.Count.{leadingZeros, leading-top}
 use Rattle.numbers.proofs.Sets.{lowest, highest}
-use Rattle.links.proofs.rows.one_of.Statement.{statement}
-use Rattle.links.proofs.rows.one_of.Tie as tie
+use Rattle.link_rules.proofs.rows.one_of.Statement.{statement}
+use Rattle.link_rules.proofs.rows.one_of.Tie as tie
 
 pub one-of-spec : {M : Type 1} → statement M
 one-of-spec =

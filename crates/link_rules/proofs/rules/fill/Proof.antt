@@ -1,14 +1,14 @@
--- `links::rules::fill` meets its contract: the loop has filled in the links passed. Assumes nothing.
+-- `link_rules::rules::fill` meets its contract: the loop has filled in the links passed. Assumes nothing.
 use mathlib.Core.Path.{_≡_, refl, sym, ap, subst, _∙_}
 use mathlib.Core.List.{List}
 use Prim.Native.Nat.{ℕ, _-_, _≤_, _<_}
 use native.Mathlib.Omega.{arith}
 use lib.ListN.{length, length-set}
 use Rattle.numbers.specs.Below.{allBelow}
-use Rattle.links.specs.LinkRules.{tagIn, fromIn, toIn, rowOf, at, noneDoubled, Filled}
-use Rattle.links.proofs.FillLaws.{marks-next, doubled-next}
-use Rattle.links.proofs.rules.fill.Statement.{statement}
-use Rattle.links.proofs.rules.fill.Tie as tie
+use Rattle.link_rules.specs.LinkRules.{tagIn, fromIn, toIn, rowOf, at, noneDoubled, Filled}
+use Rattle.link_rules.proofs.FillLaws.{marks-next, doubled-next}
+use Rattle.link_rules.proofs.rules.fill.Statement.{statement}
+use Rattle.link_rules.proofs.rules.fill.Tie as tie
 
 abbrev Inv-loop : tie.InvT-loop
 Inv-loop links n rows₀ starts₀ ok₀ i₀ rows starts ok i =
@@ -68,13 +68,16 @@ fill-spec =
     let o = c .before .before .before .before .loop in
     let l = a .links .now in
     let x = at l (o .i) in
-    let in-loop = c .before .before .before in
-    (omega arith,
-    length-set (o .rows) (rowOf x) _ ∙ o .inv .1,
-    length-set (o .starts) (tagIn x) _ ∙ o .inv .2,
-    doubled-next l (a .n) (o .i) (length (a .starts .now)) (c .before .before .before .before .before .pre .0 .1) (in-loop .loop-test .taken) (o .rows) (o .inv .4 .0) (o .ok) (o .inv .3),
-    (marks-next l (o .i) rowOf toIn (o .rows) (o .inv .4 .0) (row-there in-loop) (placed in-loop .2),
-    marks-next l (o .i) tagIn fromIn (o .starts) (o .inv .4 .1) (start-there in-loop) (placed in-loop .1))))
+    let in-loop = c .before .before .before in (
+      omega arith,
+      length-set (o .rows) (rowOf x) _ ∙ o .inv .1,
+      length-set (o .starts) (tagIn x) _ ∙ o .inv .2,
+      doubled-next l (a .n) (o .i) (length (a .starts .now)) (c .before .before .before .before .before .pre .0 .1) (in-loop .loop-test .taken) (o .rows) (o .inv .4 .0) (o .ok) (o .inv .3),
+      (
+        marks-next l (o .i) rowOf toIn (o .rows) (o .inv .4 .0) (row-there in-loop) (placed in-loop .2),
+        marks-next l (o .i) tagIn fromIn (o .starts) (o .inv .4 .1) (start-there in-loop) (placed in-loop .1),
+      ),
+    ))
     (λ c. c .before .loop .inv .1)
     (λ c. c .before .loop .inv .2)
     (λ c.

@@ -1,12 +1,12 @@
--- `links::rows::sweep` meets its contract: the loop is a pass under way. Assumes nothing.
+-- `link_rules::rows::sweep` meets its contract: the loop is a pass under way. Assumes nothing.
 use mathlib.Core.Path.{_≡_, sym, subst, subst₂}
 use mathlib.Core.Logic.{⊎-elim}
 use Prim.Native.Nat.{ℕ, _^_, _<_}
 use native.Mathlib.Omega.{arith}
 use borrow.Author.Needs.{needs}
-use Rattle.links.proofs.RowLaws.{less, less-lt, Sweeping, sweeping-start, sweeping-goes, sweeping-stays, sweeping-end}
-use Rattle.links.proofs.rows.sweep.Statement.{statement}
-use Rattle.links.proofs.rows.sweep.Tie as tie
+use Rattle.link_rules.proofs.RowLaws.{less, less-lt, Sweeping, sweeping-start, sweeping-goes, sweeping-stays, sweeping-end}
+use Rattle.link_rules.proofs.rows.sweep.Statement.{statement}
+use Rattle.link_rules.proofs.rows.sweep.Tie as tie
 
 abbrev Inv-loop : tie.InvT-loop
 Inv-loop rows at alive down s₀ rest₀ s rest = (fits : alive < 2 ^ 64) × Sweeping rows at alive fits s rest
@@ -42,14 +42,15 @@ sweep-spec =
     let one = c .before .before .one-of in
     let p = one .result in
     let o = c .before .before .before .before .loop in
-    let fits = o .inv .0 in
-    (fits,
-    ⊎-elim
-    (λ m. subst (λ (x : ℕ). Sweeping (a .rows .now) (a .at) (a .alive) fits x (less (o .rest) p)) (sym (m .1))
-    (sweeping-goes (a .rows .now) (a .at) (a .alive) fits (o .s) (o .rest) p (o .inv .1) (one .ensures .0) (one .ensures .1) (m .0 .taken)))
-    (λ m. subst (λ (x : ℕ). Sweeping (a .rows .now) (a .at) (a .alive) fits x (less (o .rest) p)) (sym (m .1))
-    (sweeping-stays (a .rows .now) (a .at) (a .alive) fits (o .s) (o .rest) p (o .inv .1) (one .ensures .0) (one .ensures .1) (m .0 .left)))
-    (c .if1 .came)))
+    let fits = o .inv .0 in (
+      fits,
+      ⊎-elim
+          (λ m. subst (λ (x : ℕ). Sweeping (a .rows .now) (a .at) (a .alive) fits x (less (o .rest) p)) (sym (m .1))
+          (sweeping-goes (a .rows .now) (a .at) (a .alive) fits (o .s) (o .rest) p (o .inv .1) (one .ensures .0) (one .ensures .1) (m .0 .taken)))
+          (λ m. subst (λ (x : ℕ). Sweeping (a .rows .now) (a .at) (a .alive) fits x (less (o .rest) p)) (sym (m .1))
+          (sweeping-stays (a .rows .now) (a .at) (a .alive) fits (o .s) (o .rest) p (o .inv .1) (one .ensures .0) (one .ensures .1) (m .0 .left)))
+          (c .if1 .came),
+    ))
     (λ c.
     let a = c .before .before .before .args in
     let o = c .before .loop in

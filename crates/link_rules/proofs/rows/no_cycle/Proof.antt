@@ -1,9 +1,9 @@
--- `links::rows::no_cycle` meets its contract. Assumes nothing.
+-- `link_rules::rows::no_cycle` meets its contract. Assumes nothing.
 use native.Mathlib.Omega.{arith}
 use borrow.Author.Needs.{needs}
-use Rattle.links.proofs.RowLaws.{stripped-is}
-use Rattle.links.proofs.rows.no_cycle.Statement.{statement}
-use Rattle.links.proofs.rows.no_cycle.Tie as tie
+use Rattle.link_rules.proofs.RowLaws.{stripped-is}
+use Rattle.link_rules.proofs.rows.no_cycle.Statement.{statement}
+use Rattle.link_rules.proofs.rows.no_cycle.Tie as tie
 
 pub no-cycle-spec : {M : Type 1} → statement M
 no-cycle-spec =

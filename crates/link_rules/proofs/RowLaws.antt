@@ -18,13 +18,13 @@ use Rattle.numbers.specs.Sets.{contains, setOf}
 use Rattle.numbers.proofs.Bools.{and-left, and-right, and-both, both-ways, either, or-either, or-left, or-right, never}
 use Rattle.numbers.proofs.Below.{any-is, count-lt}
 use Rattle.numbers.proofs.Sets.{contains-and, contains-above, contains-setOf, contains-take, setOf-lt, lowest}
 use Rattle.links.specs.Paths.{Link, joins, Path, here, along, leads}
 use Rattle.links.specs.Cycles.{NoCycle, noCycle}
-use Rattle.links.specs.Rows.{row, Leaving, linksTo, linksUpTo, rowLinks, Endless, KeepsEndless, Swept, Stripped}
+use Rattle.link_rules.specs.Rows.{row, Leaving, linksTo, linksUpTo, rowLinks, Endless, KeepsEndless, Swept, Stripped}
 use Rattle.links.proofs.PathLaws.{joins-head, joins-tail, joins-cases, path-joined, path-one, leads-is}
 use Rattle.links.proofs.ListLaws.{joins-append}
 use Rattle.links.proofs.CycleLaws.{noCycle-is}
 use Rattle.links.proofs.LedTo.{high-out}
 
 -- ---- the links of rows
 
@@ -197,7 +197,7 @@ module _ (rows : List ℕ) (a starts r : ℕ) (fits : r < 2 ^ 64) (w : Stripped 
       let link = bit-joins rows a p q (high-out r p fits e) (high-out r q fits (next .2)) (next .1) in
       let back : leads ls q p ≡ false = ⊎-elim (λ x. absurd (none p q link (leads-is ls q p .0 x))) (λ x. x) (either (leads ls q p)) in
       let fewer =
-        count-lt 64 (leads ls q) (leads ls p) (λ x g. leads-is ls p x .1 (along q link (leads-is ls q x .0 g))) p (high-out r p fits e) back (leads-is ls p p .1 here) in
+      count-lt 64 (leads ls q) (leads ls p) (λ x g. leads-is ls p x .1 (along q link (leads-is ls q x .0 g))) p (high-out r p fits e) back (leads-is ls p p .1 here) in
       round none m q (next .2) (omega arith)
 
   -- those that a way leads back to

@@ -5,8 +5,8 @@ ghost use mathlib.Core.Bool.{true};
 ghost use Prim.Native.Nat.{_+_, _≤_, _<_};
 ghost use lib.ListN.{length};
 ghost use Rattle.numbers.specs.Sets.{contains};
 ghost use Rattle.links.specs.Cycles.{noCycle};
-ghost use Rattle.links.specs.Rows.{rowLinks, Leaving, Swept, Stripped};
+ghost use Rattle.link_rules.specs.Rows.{rowLinks, Leaving, Swept, Stripped};
 
 // The lowest or the highest member of a set.
 fn one_of(set: u64, down: bool) -> u32

@@ -1,13 +1,13 @@
--- `links::rules::all_made` meets its contract: the loop has tested the links passed. Assumes nothing.
+-- `link_rules::rules::all_made` meets its contract: the loop has tested the links passed. Assumes nothing.
 use mathlib.Core.Path.{_≡_, refl, sym, ap, _∙_}
 use mathlib.Core.Bool.{Bool, _&&_}
 use Prim.Native.Nat.{ℕ, _-_, _≤_}
 use native.Mathlib.Omega.{arith}
 use Rattle.numbers.specs.Below.{allBelow}
 use Rattle.numbers.proofs.Below.{all-next}
-use Rattle.links.specs.LinkRules.{allMade, made}
-use Rattle.links.proofs.rules.all_made.Statement.{statement}
-use Rattle.links.proofs.rules.all_made.Tie as tie
+use Rattle.link_rules.specs.LinkRules.{allMade, made}
+use Rattle.link_rules.proofs.rules.all_made.Statement.{statement}
+use Rattle.link_rules.proofs.rules.all_made.Tie as tie
 
 abbrev Inv-loop : tie.InvT-loop
 Inv-loop links n tags principals ok₀ i₀ ok i = (i ≤ n) × (ok ≡ allBelow i (made links tags principals))

@@ -1,13 +1,13 @@
--- `links::rules::none_to_public` meets its contract: the loop has tested the links passed. Assumes nothing.
+-- `link_rules::rules::none_to_public` meets its contract: the loop has tested the links passed. Assumes nothing.
 use mathlib.Core.Path.{_≡_, refl, sym, ap, _∙_}
 use mathlib.Core.Bool.{Bool, _&&_}
 use Prim.Native.Nat.{ℕ, _-_, _≤_}
 use native.Mathlib.Omega.{arith}
 use Rattle.numbers.specs.Below.{allBelow}
 use Rattle.numbers.proofs.Below.{all-next}
-use Rattle.links.specs.LinkRules.{noneToPublic, notToPublic}
-use Rattle.links.proofs.rules.none_to_public.Statement.{statement}
-use Rattle.links.proofs.rules.none_to_public.Tie as tie
+use Rattle.link_rules.specs.LinkRules.{noneToPublic, notToPublic}
+use Rattle.link_rules.proofs.rules.none_to_public.Statement.{statement}
+use Rattle.link_rules.proofs.rules.none_to_public.Tie as tie
 
 abbrev Inv-loop : tie.InvT-loop
 Inv-loop links n ok₀ i₀ ok i = (i ≤ n) × (ok ≡ allBelow i (notToPublic links))
