@@ -1,12 +1,12 @@
 -- Filling rows with links, one after the other: what is marked then, and that a mark met again is a link met again. Assumes nothing.
-use mathlib.Core.Path.{_≡_, refl, sym, ap, ap₂, subst, _∙_}
-use mathlib.Core.Bool.{Bool, true, false, not, _&&_, _||_, or-comm}
+use mathlib.Core.Path.{_≡_, sym, ap, ap₂, subst, _∙_}
+use mathlib.Core.Bool.{Bool, true, not, _&&_, _||_, or-comm}
 use mathlib.Core.List.{List}
 use mathlib.Core.Logic.{⊎-elim}
-use Prim.Native.Nat.{ℕ, zero, suc, _+_, _*_, _/_, _%_, _^_, _<_, _≤_}
+use Prim.Native.Nat.{ℕ, _+_, _*_, _/_, _%_, _^_, _<_, _≤_}
 use native.Mathlib.Nat.{div-add-mod', div-div-eq-div-mul, mod-lt}
 use native.Mathlib.Omega.{arith}
-use borrow.Author.Tests.{eqb-true, eqb-false, eq-eqb, ne-eqb}
+use borrow.Author.Tests.{eqb-true, eqb-false, eq-eqb}
 use lib.Bits.{bitAnd, bitOr}
 use lib.Dec.{eqb, lit<}
 use lib.ListN.{length, getD, set, take}
@@ -23,7 +23,7 @@ use Rattle.link_rules.proofs.RowLaws.{bit-joins, joins-bit}
 use Rattle.link_rules.specs.Rows.{row, rowLinks, Leaving}
 use Rattle.links.specs.Cycles.{noCycle}
 use Rattle.links.specs.Links.{linksIn}
-use Rattle.links.specs.Paths.{Link, joins}
+use Rattle.links.specs.Paths.{Link}
 use Rattle.links.specs.declared.lists.Graph.the-variants.{OfTag}
 use Rattle.link_rules.specs.LinkRules.{tagIn, fromIn, toIn, rowOf, at, noneDoubled, Placed, Marks, noneCyclic, Filled}
 

@@ -1,16 +1,15 @@
 -- What a yes of a rule gives, and rows with nothing in them. Assumes nothing.
 use mathlib.Core.Path.{_≡_, sym, ap, subst, _∙_}
-use mathlib.Core.Bool.{Bool, true, false, _&&_}
+use mathlib.Core.Bool.{true, _&&_}
 use mathlib.Core.List.{List}
 use mathlib.Core.Logic.{⊎-elim}
-use Prim.Native.Nat.{ℕ, _≤_, _<_}
+use Prim.Native.Nat.{ℕ, _≤_}
 use native.Mathlib.Nat.{lt-of-lt-of-le}
-use native.Mathlib.Omega.{arith}
 use borrow.Author.Tests.{eqb-true, leb-true, leb-false, ltb-true}
 use lib.Dec.{eqb, leb, ltb}
-use lib.ListN.{length, getD, replicate, length-replicate, getD-replicate, List·getD-eq-default}
+use lib.ListN.{getD, replicate, length-replicate, getD-replicate, List·getD-eq-default}
 use lib.Pow.{pow-pos}
-use Rattle.numbers.specs.Below.{allBelow, anyBelow}
+use Rattle.numbers.specs.Below.{anyBelow}
 use Rattle.numbers.specs.Sets.{contains}
 use Rattle.numbers.proofs.Bools.{and-left, and-right, either}
 use Rattle.numbers.proofs.Below.{all-each}

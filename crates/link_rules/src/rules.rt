@@ -100,24 +100,17 @@ fn in_limits(places: usize, n: usize, tags: u32, principals: u32) -> bool
     (places == LINKS) & ((n <= LINKS) & ((tags <= 64) & (principals <= 64)))
 }
 
-// The list of principal links obeys every rule of 9 that speaks of it.
-pub fn principal_links_hold(links: &[u32], n: usize, principals: u32) -> bool
-    ensures { λ r. ⌜ r ≡ linksHold (now (links .entry)) n 1 principals ⌝ }
-{
-    if !in_limits(links.len(), n, 1, principals) {
-        return false;
-    }
-    if !all_made(links, n, 1, principals) {
-        return false;
-    }
-    let mut rows = [0u64; 64];
-    let mut starts = [0u64; 1];
-    let sound = plain(links, n, &mut rows, &mut starts, 1);
-    sound & none_to_public(links, n)
-}
-
-// And that of the tag links.
-pub fn tag_links_hold(links: &[u32], n: usize, tags: u32, principals: u32) -> bool
+// A list of links of the first tags obeys every rule of 9 that speaks of it. The rows are empty.
+fn hold(
+    links: &[u32],
+    n: usize,
+    rows: &mut [u64],
+    starts: &mut [u64],
+    tags: u32,
+    principals: u32,
+) -> bool
+    requires { ⌜ (length (now rows) ≡ length (now starts) * 64) × (tags ≤ 64 → tags ≤ length (now starts)) ⌝ }
+    requires { ⌜ Filled (now links) 0 (now rows) (now starts) ⌝ }
     ensures { λ r. ⌜ r ≡ linksHold (now (links .entry)) n tags principals ⌝ }
 {
     if !in_limits(links.len(), n, tags, principals) {
@@ -126,8 +119,24 @@ pub fn tag_links_hold(links: &[u32], n: usize, tags: u32, principals: u32) -> bo
     if !all_made(links, n, tags, principals) {
         return false;
     }
+    let sound = plain(links, n, rows, starts, tags as usize);
+    sound & none_to_public(links, n)
+}
+
+// The list of principal links obeys every rule of 9 that speaks of it.
+pub fn principal_links_hold(links: &[u32], n: usize, principals: u32) -> bool
+    ensures { λ r. ⌜ r ≡ linksHold (now (links .entry)) n 1 principals ⌝ }
+{
+    let mut rows = [0u64; 64];
+    let mut starts = [0u64; 1];
+    hold(links, n, &mut rows, &mut starts, 1, principals)
+}
+
+// And that of the tag links.
+pub fn tag_links_hold(links: &[u32], n: usize, tags: u32, principals: u32) -> bool
+    ensures { λ r. ⌜ r ≡ linksHold (now (links .entry)) n tags principals ⌝ }
+{
     let mut rows = [0u64; 4096];
     let mut starts = [0u64; 64];
-    let sound = plain(links, n, &mut rows, &mut starts, tags as usize);
-    sound & none_to_public(links, n)
+    hold(links, n, &mut rows, &mut starts, tags, principals)
 }

@@ -6,3 +6,4 @@ pub mod LedTo
 pub mod AuthorityLaws
 pub mod Closing
 pub mod ListLaws
+pub mod Cases

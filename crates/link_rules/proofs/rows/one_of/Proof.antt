@@ -1,6 +1,6 @@
 -- `link_rules::rows::one_of` meets its contract. Assumes nothing.
 use native.Mathlib.Omega.{arith}
-use lib.Count.{leadingZeros, leading-top}
+use lib.Count.{leading-top}
 use Rattle.numbers.proofs.Sets.{lowest, highest}
 use Rattle.link_rules.proofs.rows.one_of.Statement.{statement}
 use Rattle.link_rules.proofs.rows.one_of.Tie as tie

@@ -1,5 +1,4 @@
 -- `link_rules::rows::strip` meets its contract: the loop keeps every endless set. Assumes nothing.
-use Prim.Native.Nat.{ℕ, _^_, _<_}
 use native.Mathlib.Omega.{arith}
 use Rattle.link_rules.specs.Rows.{KeepsEndless}
 use Rattle.link_rules.proofs.rows.strip.Statement.{statement}

@@ -1,9 +1,8 @@
 -- `link_rules::rows::sweep` meets its contract: the loop is a pass under way. Assumes nothing.
-use mathlib.Core.Path.{_≡_, sym, subst, subst₂}
+use mathlib.Core.Path.{sym, subst}
 use mathlib.Core.Logic.{⊎-elim}
 use Prim.Native.Nat.{ℕ, _^_, _<_}
 use native.Mathlib.Omega.{arith}
-use borrow.Author.Needs.{needs}
 use Rattle.link_rules.proofs.RowLaws.{less, less-lt, Sweeping, sweeping-start, sweeping-goes, sweeping-stays, sweeping-end}
 use Rattle.link_rules.proofs.rows.sweep.Statement.{statement}
 use Rattle.link_rules.proofs.rows.sweep.Tie as tie
