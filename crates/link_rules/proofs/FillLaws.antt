@@ -25,7 +25,8 @@ use Rattle.links.specs.Cycles.{noCycle}
 use Rattle.links.specs.Links.{linksIn}
 use Rattle.links.specs.Paths.{Link}
 use Rattle.links.specs.declared.lists.Graph.the-variants.{OfTag}
-use Rattle.link_rules.specs.LinkRules.{tagIn, fromIn, toIn, rowOf, at, noneDoubled, Placed, Marks, noneCyclic, Filled}
+use Rattle.link_rules.specs.LinkRules.{tagIn, fromIn, toIn, at, noneDoubled, noneCyclic}
+use Rattle.link_rules.specs.Filling.{rowOf, Placed, Marks, Filled}
 
 same-test : (a b : ℕ) → eqb a b ≡ eqb b a
 same-test a b = both-ways (eqb a b) (eqb b a) (λ e. eq-eqb b a (sym (eqb-true a b e))) (λ e. eq-eqb a b (sym (eqb-true b a e)))

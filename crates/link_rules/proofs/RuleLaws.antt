@@ -14,7 +14,8 @@ use Rattle.numbers.specs.Sets.{contains}
 use Rattle.numbers.proofs.Bools.{and-left, and-right, either}
 use Rattle.numbers.proofs.Below.{all-each}
 use Rattle.numbers.proofs.Sets.{contains-above}
-use Rattle.link_rules.specs.LinkRules.{tagIn, fromIn, toIn, at, made, inLimits, allMade, Placed, Marks}
+use Rattle.link_rules.specs.LinkRules.{tagIn, fromIn, toIn, at, made, inLimits, allMade}
+use Rattle.link_rules.specs.Filling.{Placed, Marks}
 
 -- within its limits a list has 256 places, and no count lies
 pub record Limits (places n tags principals : ℕ) : Type 0 where

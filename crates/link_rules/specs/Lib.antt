@@ -1,2 +1,3 @@
-pub mod Rows
 pub mod LinkRules
+pub mod Rows
+pub mod Filling

@@ -1,14 +1,12 @@
 -- The rules of 9 that speak of link lists (01, "Refusal numbers"), each a test on a list of which the first n places are in use.
 -- A principal link is read as a link of tag 0, so that both lists have one set of rules. Assumes nothing.
-use mathlib.Core.Path.{_≡_}
 use mathlib.Core.Bool.{Bool, not, _&&_}
 use mathlib.Core.List.{List}
-use Prim.Native.Nat.{ℕ, _+_, _*_, _/_, _%_, _<_}
+use Prim.Native.Nat.{ℕ, _/_, _%_}
 use lib.Dec.{eqb, ltb, leb}
 use lib.ListN.{length, getD}
 use Rattle.numbers.specs.Below.{allBelow, anyBelow}
 use Rattle.numbers.specs.Numbers.{public, linkPlaces, mostTags, mostPrincipals}
-use Rattle.numbers.specs.Sets.{contains}
 use Rattle.links.specs.declared.lists.Graph.the-variants.{OfTag}
 use Rattle.links.specs.Links.{linksIn}
 use Rattle.links.specs.Cycles.{noCycle}
@@ -22,10 +20,6 @@ fromIn x = x / 256 % 256
 
 abbrev pub toIn : ℕ → ℕ
 toIn x = x % 256
-
--- the row of a link: 64 rows a tag
-abbrev pub rowOf : ℕ → ℕ
-rowOf x = tagIn x * 64 + fromIn x
 
 -- what stands at place i
 abbrev pub at : List ℕ → ℕ → ℕ
@@ -65,17 +59,3 @@ module _ (l : List ℕ) (n : ℕ) where
   abbrev pub linksHold : ℕ → ℕ → Bool
   linksHold tags principals =
       inLimits (length l) n tags principals && (allMade tags principals && (noneCyclic tags && noneDoubled && noneToPublic))
-
-  -- ---- rows that hold the links of the list: how doubled links and cycles are found
-
-  -- every link has its row among those of so many tags
-  abbrev pub Placed : ℕ → Type 0
-  Placed tags = (i : ℕ) → i < n → (tagIn (at l i) < tags) × (fromIn (at l i) < 64) × (toIn (at l i) < 64)
-
-  -- number q is marked in row k exactly where one of the links says so
-  abbrev pub Marks : (ℕ → ℕ) → (ℕ → ℕ) → List ℕ → Type 0
-  Marks key mark rows = (k q : ℕ) → contains (getD rows k 0) q ≡ anyBelow n (λ j. eqb (key (at l j)) k && eqb (mark (at l j)) q)
-
-  -- the rows hold the links, and the starts their near ends
-  abbrev pub Filled : List ℕ → List ℕ → Type 0
-  Filled rows starts = Marks rowOf toIn rows × Marks tagIn fromIn starts

@@ -7,9 +7,12 @@ ghost use lib.ListN.{length, getD};
 ghost use Rattle.numbers.specs.Below.{allBelow};
 ghost use Rattle.links.specs.Cycles.{noCycle};
 ghost use Rattle.link_rules.specs.Rows.{rowLinks, Leaving};
-ghost use Rattle.link_rules.specs.LinkRules.{inLimits, allMade, noneToPublic, noneDoubled, noneCyclic, linksHold, Filled, Placed};
+ghost use Rattle.link_rules.specs.LinkRules.{inLimits, allMade, noneToPublic, noneDoubled, noneCyclic, linksHold};
+ghost use Rattle.link_rules.specs.Filling.{Filled, Placed};
 use crate::rows::no_cycle;
 use numbers::LINKS;
+use numbers::PRINCIPALS;
+use numbers::TAGS;
 
 // "An unmade number": no link of the first n has one.
 pub fn all_made(links: &[u32], n: usize, tags: u32, principals: u32) -> bool
@@ -97,7 +100,8 @@ fn plain(links: &[u32], n: usize, rows: &mut [u64], starts: &mut [u64], tags: us
 fn in_limits(places: usize, n: usize, tags: u32, principals: u32) -> bool
     ensures { λ r. ⌜ r ≡ inLimits places n tags principals ⌝ }
 {
-    (places == LINKS) & ((n <= LINKS) & ((tags <= 64) & (principals <= 64)))
+    (places == LINKS)
+        & ((n <= LINKS) & ((tags as usize <= TAGS) & (principals as usize <= PRINCIPALS)))
 }
 
 // A list of links of the first tags obeys every rule of 9 that speaks of it. The rows are empty.

@@ -1,5 +1,5 @@
 -- A list of numbers and the links in it: a link stands in `linksFrom base xs` exactly where one of the numbers says so. Assumes nothing.
-use mathlib.Core.Path.{_≡_, refl, sym, ap, subst, _∙_}
+use mathlib.Core.Path.{_≡_, refl, sym, ap, ap₂, subst, _∙_}
 use mathlib.Core.Bool.{Bool, true, false, cond, _&&_}
 use mathlib.Core.List.{List, [], _∷_}
 use mathlib.Core.Logic.{⊎-elim}
@@ -16,7 +16,7 @@ use Rattle.links.specs.Paths.{Link, joins}
 use Rattle.links.specs.declared.lists.Found.the-variants.{At, Nothing}
 use Rattle.links.specs.declared.lists.Graph.{Graph}
 use Rattle.links.specs.declared.lists.Graph.the-variants.{Principals, OfTag}
-use Rattle.links.specs.Links.{isLinkOf, linksFrom, baseOf, findFrom}
+use Rattle.links.specs.Links.{isLinkOf, linksFrom, baseOf, linksIn, findFrom}
 use Rattle.links.proofs.PathLaws.{joins-head, joins-tail, joins-cases}
 
 -- the number x is the link from p to q of the graph with this base
@@ -108,10 +108,17 @@ drop-used l n =
     drop-of-length-le l {i = min n (length l)} (omega arith) ∙ sym (drop-of-length-le l {i = n} (omega arith)))
     (either (leb n (length l)))
 
+-- what the code reads, from the base and the places it worked out
+pub in-use : (l : List ℕ) (n : ℕ) (g : Graph) (base k : ℕ) → base ≡ baseOf g → k ≡ min n (length l) → linksFrom base (take k l) ≡ linksIn l n g
+in-use l n g base k e f = ap₂ linksFrom e (ap (λ (j : ℕ). take j l) f ∙ take-used l n)
+
 -- a base that is one 32-bit number leaves room for a principal
-pub baseOf-room : (g : Graph) → baseOf g < 2 ^ 32 → baseOf g + 64 ≤ 4294967296
-baseOf-room Principals h = omega arith
-baseOf-room (OfTag t) h = omega arith
+room : (g : Graph) → baseOf g < 2 ^ 32 → baseOf g + 64 ≤ 4294967296
+room Principals h = omega arith
+room (OfTag t) h = omega arith
+
+pub base-room : (g : Graph) (base : ℕ) → base ≡ baseOf g → base < 2 ^ 32 → base + 64 ≤ 4294967296
+base-room g base e h = subst (λ (b : ℕ). b + 64 ≤ 4294967296) (sym e) (room g (subst (λ (b : ℕ). b < 2 ^ 32) e h))
 
 -- ---- a search, place by place
 

@@ -4,7 +4,8 @@ use Prim.Native.Nat.{ℕ, _-_, _≤_, _<_}
 use native.Mathlib.Omega.{arith}
 use lib.ListN.{length, length-set}
 use Rattle.numbers.specs.Below.{allBelow}
-use Rattle.link_rules.specs.LinkRules.{tagIn, fromIn, toIn, rowOf, at, noneDoubled, Filled}
+use Rattle.link_rules.specs.LinkRules.{tagIn, fromIn, toIn, at, noneDoubled}
+use Rattle.link_rules.specs.Filling.{rowOf, Filled}
 use Rattle.link_rules.proofs.FillLaws.{marks-next, doubled-next}
 use Rattle.link_rules.proofs.rules.fill.Statement.{statement}
 use Rattle.link_rules.proofs.rules.fill.Tie as tie
