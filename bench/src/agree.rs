@@ -70,7 +70,7 @@ fn questions(random: &mut Random, tables: &Tables) -> Vec<Question> {
         let p = end(random, &tables.links);
         let q = end(random, &tables.links);
         questions.push(Question::ActsFor { p, q });
-        questions.push(Question::ClosesPrincipalCycle { p, q });
+        questions.push(Question::ClosesPrincipalCycle { p: q, q: p });
         let own = rooted(random, tables);
         let above = supertag(random, tables, own);
         questions.push(Question::Authoritative { own, p });

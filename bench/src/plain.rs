@@ -65,7 +65,9 @@ fn has(set: u64, p: u8) -> bool {
     p < 64 && set >> p & 1 == 1
 }
 
-/// Adds to `seen` the principal p and what is reached from it.
+/// Adds to `seen` the principal p and what is reached from it. Put into the loop below,
+/// it saves the call where p is seen already.
+#[inline(always)]
 fn visit(links: &[u32], base: u32, p: u32, seen: u64) -> u64 {
     if p >= 64 || seen >> p & 1 == 1 {
         return seen;
