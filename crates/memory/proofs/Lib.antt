@@ -1,0 +1,3 @@
+pub mod Sliding
+pub mod Front
+pub mod Asking
