@@ -136,10 +136,15 @@ pub fn principal_links_hold(links: &[u32], n: usize, principals: u32) -> bool
     hold(links, n, &mut rows, &mut starts, 1, principals)
 }
 
-// And that of the tag links.
+// And that of the tag links. Few tags need few rows, which are sooner cleared.
 pub fn tag_links_hold(links: &[u32], n: usize, tags: u32, principals: u32) -> bool
     ensures { λ r. ⌜ r ≡ linksHold (now (links .entry)) n tags principals ⌝ }
 {
+    if tags <= 8 {
+        let mut rows = [0u64; 512];
+        let mut starts = [0u64; 8];
+        return hold(links, n, &mut rows, &mut starts, tags, principals);
+    }
     let mut rows = [0u64; 4096];
     let mut starts = [0u64; 64];
     hold(links, n, &mut rows, &mut starts, tags, principals)

@@ -1,5 +1,5 @@
 -- The three ends of a question: a hit, a yes by the walk, and a no. Assumes nothing.
-use mathlib.Core.Path.{_≡_, refl, sym, ap, subst, _∙_}
+use mathlib.Core.Path.{_≡_, sym, ap, subst, _∙_}
 use mathlib.Core.Bool.{Bool, true, false}
 use Prim.Native.Nat.{ℕ}
 use Rattle.numbers.proofs.Chain.{skip, hit}

@@ -1,10 +1,10 @@
 -- A pair that goes to the front: what `remembered` gives where it was held, where there is room, and where the last one falls off.
 -- Assumes nothing.
 use mathlib.Core.Path.{_≡_, refl, sym, ap, ap₂, subst, _∙_}
-use mathlib.Core.Bool.{Bool, true, false, cond}
+use mathlib.Core.Bool.{Bool, cond}
 use mathlib.Core.List.{List, [], _∷_, _++_, append-assoc}
 use mathlib.Core.Logic.{⊎-elim}
-use Prim.Native.Nat.{ℕ, zero, suc, _+_, _-_, _≤_, _<_}
+use Prim.Native.Nat.{ℕ, suc, _+_, _-_, _≤_, _<_}
 use native.Mathlib.Nat.{add-zero, add-suc, suc-add, zero-add}
 use native.Mathlib.Numerals.{add-one}
 use native.Mathlib.Omega.{arith}
@@ -12,11 +12,10 @@ use lib.Dec.{eqb}
 use lib.ListN.{length, take, drop, length-append, length-drop, take-append-drop}
 use lib.Seq.{length-take-le, take-all, take-take, drop-append-le}
 use Rattle.numbers.proofs.Bools.{either}
-use Rattle.links.specs.declared.lists.Found.{Found}
 use Rattle.links.specs.declared.lists.Found.the-variants.{At, Nothing}
 use Rattle.links.specs.Links.{findFrom, findIn}
 use Rattle.memory.specs.declared.Memory.{Memory}
-use Rattle.memory.specs.Remembered.{heldPairs, without, holding, remembered, slid, withFront}
+use Rattle.memory.specs.Remembered.{heldPairs, without, remembered, slid, withFront}
 
 -- ---- a pair that is found, and one that is not
 

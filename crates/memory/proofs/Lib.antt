@@ -1,3 +1,4 @@
 pub mod Sliding
 pub mod Front
 pub mod Asking
+pub mod MemoryLaws

@@ -1,6 +1,6 @@
 -- A list written over another, one element after the other. Assumes nothing.
 use mathlib.Core.Path.{_≡_, sym, ap, _∙_}
-use mathlib.Core.List.{List, _∷_, _++_}
+use mathlib.Core.List.{List, _++_}
 use Prim.Native.Nat.{ℕ, suc, _≤_, _<_}
 use lib.ListN.{length, getD, take, drop, set}
 use lib.Seq.{length-take-le, take-suc, drop-cons, append-snoc, set-at, getD-at}
