@@ -16,6 +16,7 @@ pub static PLAIN: Functions = Functions {
 const LINKS: usize = 256;
 const PRINCIPALS: usize = 64;
 const TAGS: usize = 64;
+const FEW_TAGS: usize = 8;
 
 fn acts_for(links: Lent, p: u8, q: u8) -> bool {
     leads(used(links), 0, q, p)
@@ -39,6 +40,9 @@ fn principal_links_hold(links: Lent, principals: u32) -> bool {
 }
 
 fn tag_links_hold(links: Lent, tags: u32, principals: u32) -> bool {
+    if tags as usize <= FEW_TAGS {
+        return links_hold::<FEW_TAGS>(links, tags, principals);
+    }
     links_hold::<TAGS>(links, tags, principals)
 }
 
