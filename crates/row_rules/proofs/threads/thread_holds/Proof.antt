@@ -1,0 +1,40 @@
+-- `row_rules::threads::thread_holds` meets its contract: a row that is not live, one over the limit, and any other. Assumes nothing.
+use mathlib.Core.Path.{_≡_, refl, sym, ap, ap₂, _∙_}
+use mathlib.Core.Bool.{Bool, true, false, not, cond, _&&_, _||_}
+use Prim.Native.Nat.{ℕ}
+use borrow.Author.Needs.{needs}
+use borrow.Author.Tests.{lt-leb, le-leb}
+use lib.Dec.{ltb, leb}
+use Rattle.numbers.specs.Numbers.{mostPutAside}
+use Rattle.tables.specs.declared.rows.ThreadRow.{ThreadRow}
+use Rattle.row_rules.specs.RowRules.{labelsMade, asideMade, asideUnused, isNoThread, threadHolds}
+use Rattle.row_rules.proofs.threads.thread_holds.Statement.{statement}
+use Rattle.row_rules.proofs.threads.thread_holds.Tie as tie
+
+module _ (principals tags : ℕ) (row : ThreadRow) where
+  abbrev made : Bool
+  made = ltb (row .principal .0) principals && (labelsMade tags (row .labels) && asideMade principals (row .aside) (row .calls))
+
+  abbrev unused : Bool
+  unused = asideUnused (row .aside) (row .calls)
+
+  -- what the row says, by whether it is dead and whether it is in limits
+  by-state : (dead within : Bool) → not (row .live) ≡ dead → leb (row .calls) mostPutAside ≡ within → ((dead || within) && ((dead || made) && cond dead (isNoThread row) unused)) ≡ threadHolds principals tags row
+  unfolding threadHolds
+  by-state dead within d w = sym (ap₂ (λ (a b : Bool). (a || b) && ((a || made) && cond a (isNoThread row) unused)) d w)
+
+pub thread-holds-spec : {M : Type 1} → statement M
+thread-holds-spec =
+    tie.close
+    (tie.spec
+    (λ c κs. search needs)
+    (λ c. let a = c .before .before .before .args in c .is-no-thread .ensures ∙ by-state (a .principals) (a .tags) (a .row) true _ (c .before .if1 .taken) refl)
+    (λ c. let a = c .before .before .before .args in by-state (a .principals) (a .tags) (a .row) false false (c .before .if1 .left) (lt-leb _ _ (c .if2 .taken)))
+    (λ c κs. search needs)
+    (λ c κs. search needs)
+    (λ c. search needs)
+    (λ c κs. search needs)
+    (λ c.
+    let a = c .before .before .before .before .before .before .before .before .args in
+    ap₂ _&&_ (ap (λ (b : Bool). ltb (a .row .principal .0) (a .principals) && b) (ap₂ _&&_ (c .labels-made .ensures) (c .before .before .before .aside-made .ensures))) (c .before .before .aside-unused .ensures)
+    ∙ by-state (a .principals) (a .tags) (a .row) false true (c .before .before .before .before .before .before .if1 .left) (le-leb _ _ (c .before .before .before .before .before .if2 .left))))

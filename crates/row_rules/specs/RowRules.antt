@@ -1,0 +1,87 @@
+-- The rules of 9 that speak of rows (01, "Refusal numbers"), each a test on one row, in the order of 01. Assumes nothing.
+use mathlib.Core.Bool.{Bool, true, false, not, cond, _&&_, _||_}
+use mathlib.Core.List.{List}
+use Prim.Native.Nat.{ℕ}
+use lib.Dec.{eqb, ltb, leb}
+use lib.ListN.{getD}
+use Rattle.numbers.specs.Below.{allBelow}
+use Rattle.numbers.specs.Numbers.{public, mostThreads, mostPutAside, mostObjects, mostQueued}
+use Rattle.numbers.specs.Labels.{namesOnlyMade, isEmpty}
+use Rattle.numbers.specs.declared.Principal.{Principal}
+use Rattle.numbers.specs.declared.flow.LabelPair.{LabelPair}
+use Rattle.tables.specs.Things.{nobody, threadAt, objectAt}
+use Rattle.tables.specs.declared.rows.ThreadRow.{ThreadRow}
+use Rattle.tables.specs.declared.rows.TagRow.{TagRow}
+use Rattle.tables.specs.declared.rows.Rank.{Rank}
+use Rattle.tables.specs.declared.rows.Rank.the-variants.{Supertag, SubtagOf}
+use Rattle.tables.specs.declared.rows.ObjectRow.{ObjectRow}
+use Rattle.tables.specs.declared.rows.What.{What}
+use Rattle.tables.specs.declared.rows.What.the-variants.{Free, Cell, Queue, Lock}
+
+-- ---- labels
+
+abbrev pub labelsMade : ℕ → LabelPair → Bool
+labelsMade tags l = namesOnlyMade (l .secrecy) tags && namesOnlyMade (l .integrity) tags
+
+abbrev pub labelsEmpty : LabelPair → Bool
+labelsEmpty l = isEmpty (l .secrecy) && isEmpty (l .integrity)
+
+-- ---- threads
+
+-- the k-th principal put aside
+abbrev pub asideAt : List Principal → ℕ → ℕ
+asideAt aside k = getD aside k nobody .0
+
+-- the first n put aside are made
+unfoldable pub asideMade : ℕ → List Principal → ℕ → Bool
+asideMade principals aside n = allBelow n (λ k. ltb (asideAt aside k) principals)
+
+-- those after the first n are zero
+unfoldable pub asideUnused : List Principal → ℕ → Bool
+asideUnused aside n = allBelow mostPutAside (λ k. ltb k n || eqb (asideAt aside k) public)
+
+abbrev pub isNoThread : ThreadRow → Bool
+isNoThread r = eqb (r .principal .0) public && (labelsEmpty (r .labels) && (eqb (r .calls) 0 && asideUnused (r .aside) 0))
+
+-- "a limit"
+abbrev pub threadInLimits : ThreadRow → Bool
+threadInLimits r = not (r .live) || leb (r .calls) mostPutAside
+
+-- "nonzero unused place"
+abbrev pub threadUnused : ThreadRow → Bool
+threadUnused r = cond (not (r .live)) (isNoThread r) (asideUnused (r .aside) (r .calls))
+
+module _ (principals tags : ℕ) where
+  -- "an unmade number"
+  abbrev pub threadMade : ThreadRow → Bool
+  threadMade r =
+      not (r .live) || (ltb (r .principal .0) principals && (labelsMade tags (r .labels) && asideMade principals (r .aside) (r .calls)))
+
+  unfoldable pub threadHolds : ThreadRow → Bool
+  threadHolds r = threadInLimits r && (threadMade r && threadUnused r)
+
+  unfoldable pub threadsHold : List ThreadRow → Bool
+  threadsHold rows = allBelow mostThreads (λ n. threadHolds (threadAt rows n))
+
+-- ---- objects
+
+-- "a limit"
+abbrev pub whatInLimits : What → Bool
+whatInLimits Free = true
+whatInLimits Cell = true
+whatInLimits (Queue held) = leb held mostQueued
+whatInLimits (Lock locked) = true
+
+module _ (tags : ℕ) where
+  -- "an unmade number", "nonzero unused place"
+  abbrev pub whatLabels : What → LabelPair → Bool
+  whatLabels Free l = labelsEmpty l
+  whatLabels Cell l = labelsMade tags l
+  whatLabels (Queue held) l = labelsMade tags l
+  whatLabels (Lock locked) l = labelsMade tags l
+
+  unfoldable pub objectHolds : ObjectRow → Bool
+  objectHolds r = whatInLimits (r .what) && whatLabels (r .what) (r .labels)
+
+  unfoldable pub objectsHold : List ObjectRow → Bool
+  objectsHold rows = allBelow mostObjects (λ o. objectHolds (objectAt rows o))

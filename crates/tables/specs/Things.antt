@@ -1,0 +1,58 @@
+-- "Things and numbers" (01): what a row of nothing is, and the fresh tables. Assumes nothing.
+use mathlib.Core.Bool.{true, false}
+use mathlib.Core.List.{List, [], _∷_}
+use Prim.Native.Nat.{ℕ}
+use lib.ListN.{getD, replicate}
+use Rattle.numbers.specs.declared.Principal.{Principal}
+use Rattle.numbers.specs.declared.flow.LabelPair.{LabelPair}
+use Rattle.numbers.specs.Numbers.{public, office}
+use Rattle.tables.specs.declared.rows.ThreadRow.{ThreadRow}
+use Rattle.tables.specs.declared.rows.TagRow.{TagRow}
+use Rattle.tables.specs.declared.rows.Rank.the-variants.{Supertag}
+use Rattle.tables.specs.declared.rows.ObjectRow.{ObjectRow}
+use Rattle.tables.specs.declared.rows.What.the-variants.{Free}
+use Rattle.tables.specs.declared.Tables.{Tables}
+
+-- principal 0, which fills the places that are not in use
+abbrev pub nobody : Principal
+nobody = record { 0 = public }
+
+abbrev pub noLabels : LabelPair
+noLabels = record { secrecy = record { 0 = 0 }; integrity = record { 0 = 0 } }
+
+-- "Unused places are zero": the row of a thread that is not live, of a tag not made, of a free object number
+abbrev pub noThread : ThreadRow
+noThread = record { live = false; principal = nobody; labels = noLabels; calls = 0; aside = replicate 8 nobody }
+
+abbrev pub noTag : TagRow
+noTag = record { root = nobody; rank = Supertag }
+
+abbrev pub noObject : ObjectRow
+noObject = record { what = Free; labels = noLabels }
+
+-- the row of a number; past the last there is a row of nothing
+abbrev pub threadAt : List ThreadRow → ℕ → ThreadRow
+threadAt rows n = getD rows n (record { live = false; principal = nobody; labels = noLabels; calls = 0; aside = [] })
+
+abbrev pub tagAt : List TagRow → ℕ → TagRow
+tagAt rows n = getD rows n noTag
+
+abbrev pub objectAt : List ObjectRow → ℕ → ObjectRow
+objectAt rows n = getD rows n noObject
+
+-- "thread 0 live, principal 1, empty labels"
+abbrev pub officeThread : ThreadRow
+officeThread = record { live = true; principal = record { 0 = office }; labels = noLabels; calls = 0; aside = replicate 8 nobody }
+
+-- "Fresh: principals 0 and 1, no links, tags or objects"
+abbrev pub freshTables : Tables
+freshTables =
+    record {
+      principals = 2;
+      links = 0;
+      tags = 0;
+      grants = 0;
+      threads = officeThread ∷ replicate 15 noThread;
+      kinds = replicate 64 noTag;
+      objects = replicate 64 noObject;
+    }
