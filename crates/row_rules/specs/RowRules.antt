@@ -5,11 +5,11 @@ use Prim.Native.Nat.{ℕ}
 use lib.Dec.{eqb, ltb, leb}
 use lib.ListN.{getD}
 use Rattle.numbers.specs.Below.{allBelow}
-use Rattle.numbers.specs.Numbers.{public, mostThreads, mostPutAside, mostObjects, mostQueued}
+use Rattle.numbers.specs.Numbers.{public, mostThreads, mostPutAside, mostTags, mostObjects, mostQueued}
 use Rattle.numbers.specs.Labels.{namesOnlyMade, isEmpty}
 use Rattle.numbers.specs.declared.Principal.{Principal}
 use Rattle.numbers.specs.declared.flow.LabelPair.{LabelPair}
-use Rattle.tables.specs.Things.{nobody, threadAt, objectAt}
+use Rattle.tables.specs.Things.{nobody, threadAt, tagAt, objectAt}
 use Rattle.tables.specs.declared.rows.ThreadRow.{ThreadRow}
 use Rattle.tables.specs.declared.rows.TagRow.{TagRow}
 use Rattle.tables.specs.declared.rows.Rank.{Rank}
@@ -62,6 +62,50 @@ module _ (principals tags : ℕ) where
 
   unfoldable pub threadsHold : List ThreadRow → Bool
   threadsHold rows = allBelow mostThreads (λ n. threadHolds (threadAt rows n))
+
+-- ---- tags
+
+abbrev pub isSupertag : Rank → Bool
+isSupertag Supertag = true
+isSupertag (SubtagOf t) = false
+
+abbrev pub isNoTag : TagRow → Bool
+isNoTag r = eqb (r .root .0) public && isSupertag (r .rank)
+
+-- "an unmade number", of the supertag
+abbrev pub supertagMade : ℕ → Rank → Bool
+supertagMade tags Supertag = true
+supertagMade tags (SubtagOf t) = ltb (t .0) tags
+
+-- "a subtag of a subtag or of a later tag": tag i, of this rank, is not
+abbrev pub rankHolds : List TagRow → ℕ → Rank → Bool
+rankHolds rows i Supertag = true
+rankHolds rows i (SubtagOf t) = ltb (t .0) i && isSupertag (tagAt rows (t .0) .rank)
+
+-- "an unmade number", "a public root", "a subtag of a subtag or of a later tag": tag i, which is made, obeys them
+abbrev pub tagHolds : ℕ → ℕ → List TagRow → ℕ → TagRow → Bool
+tagHolds principals tags rows i r =
+    (ltb (r .root .0) principals && supertagMade tags (r .rank)) && (not (eqb (r .root .0) public) && rankHolds rows i (r .rank))
+
+unfoldable pub tagsMade : ℕ → List TagRow → ℕ → Bool
+tagsMade principals rows tags = allBelow tags (λ i. tagHolds principals tags rows i (tagAt rows i))
+
+-- "nonzero unused place"
+unfoldable pub tagsUnused : List TagRow → ℕ → Bool
+tagsUnused rows tags = allBelow mostTags (λ i. ltb i tags || isNoTag (tagAt rows i))
+
+-- with "a limit"
+abbrev pub tagsHold : ℕ → ℕ → List TagRow → Bool
+tagsHold principals tags rows = leb tags mostTags && (tagsMade principals rows tags && tagsUnused rows tags)
+
+-- a made tag's row is tested by its root and by another row: "an unmade number", "a public root"
+abbrev pub rootHolds : ℕ → Principal → Bool
+rootHolds principals root = ltb (root .0) principals && not (eqb (root .0) public)
+
+-- the row that must be a supertag's: that of the supertag where it is an earlier tag, else tag i's own
+abbrev pub aboveOf : Rank → ℕ → ℕ
+aboveOf Supertag i = i
+aboveOf (SubtagOf t) i = cond (ltb (t .0) i) (t .0) i
 
 -- ---- objects
 

@@ -1,0 +1,61 @@
+-- `row_rules::tags::tags_made` meets its contract: the loop has tested the rows passed. Assumes nothing.
+use mathlib.Core.Path.{_≡_, ap, ap₂, _∙_}
+use mathlib.Core.Bool.{Bool, _&&_}
+use mathlib.Core.List.{List}
+use Prim.Native.Nat.{ℕ, _-_, _≤_}
+use native.Mathlib.Omega.{arith}
+use borrow.Author.Needs.{needs}
+use lib.ListN.{length}
+use Rattle.numbers.specs.Below.{allBelow}
+use Rattle.tables.specs.Things.{tagAt}
+use Rattle.tables.specs.declared.rows.TagRow.{TagRow}
+use Rattle.row_rules.specs.RowRules.{isSupertag, tagHolds, tagsMade, aboveOf}
+use Rattle.row_rules.proofs.TagRows.{above-le, row-passes}
+use Rattle.row_rules.proofs.Passes.{mapped, none-passed, one-passed, all-passed}
+use Rattle.row_rules.proofs.tags.tags_made.Statement.{statement}
+use Rattle.row_rules.proofs.tags.tags_made.Tie as tie
+
+abbrev each : ℕ → ℕ → List TagRow → ℕ → Bool
+each n principals rows i = tagHolds principals n rows i (tagAt rows i)
+
+-- the row above is not a later one
+reached : (rows : List TagRow) (i : ℕ) {above : ℕ} → above ≡ aboveOf (tagAt rows i .rank) i → above ≤ i
+reached rows i e = rw e (above-le (tagAt rows i .rank) i)
+
+abbrev Inv-loop : tie.InvT-loop
+Inv-loop n principals rows ok₀ i₀ ok i = (i ≤ n) × (length rows ≡ 64) × (ok ≡ allBelow i (each n principals rows))
+
+abbrev μ-loop : tie.MeasureT-loop
+μ-loop n principals rows ok₀ i₀ ok i = n - i
+
+pub tags-made-spec : {M : Type 1} → statement M
+unfolding tagsMade
+tags-made-spec =
+    tie.close
+    (tie.spec
+    Inv-loop
+    μ-loop
+    (λ c. (omega arith, search mapped depth 3, none-passed (each (c .args .n) (c .args .principals) (c .args .t1))))
+    (λ c. omega (arith, c .before .before .pre))
+    (λ c. omega (arith, c .before .before .pre))
+    (λ c κs. search needs)
+    (λ c. let h = reached (c .before .before .before .before .args .t1) (c .before .before .before .loop .i) (c .above-of .ensures) in omega (arith, c .before .before .before .before .pre))
+    (λ c. let h = reached (c .before .before .before .before .args .t1) (c .before .before .before .loop .i) (c .above-of .ensures) in omega (arith, c .before .before .before .before .pre))
+    (λ c κs. search needs)
+    (λ c κs. search needs)
+    (λ c. omega (arith, c .before .before .before .before .before .before .before .pre))
+    (λ c. omega arith)
+    (λ c.
+    let a = c .before .before .before .before .before .before .before .args in
+    let at = c .before .before .before .before .before .before .loop in (
+      omega arith,
+      at .inv .1,
+      one-passed (each (a .n) (a .principals) (a .t1)) (at .i)
+          (ap₂ _&&_ (c .before .root-holds .ensures) (c .is-supertag .ensures ∙ ap (λ (k : ℕ). isSupertag (tagAt (a .t1) k .rank)) (c .before .before .before .above-of .ensures))
+          ∙ row-passes (a .principals) (a .n) (a .t1) (at .i) (omega arith))
+          (at .inv .2),
+    ))
+    (λ c.
+    let a = c .before .before .args in
+    let at = c .before .loop in
+    all-passed (each (a .n) (a .principals) (a .t1)) (at .i) (a .n) (at .inv .2) (at .inv .0) (omega arith)))
