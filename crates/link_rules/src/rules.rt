@@ -69,6 +69,16 @@ fn fill(links: &[u32], n: usize, rows: &mut [u64], starts: &mut [u64]) -> bool
     ok
 }
 
+// "A doubled link", or remembered pair: none of the first n, which read as links of tag 0, stands twice.
+pub fn none_doubled(list: &[u32], n: usize) -> bool
+    requires { ⌜ (n ≤ length (now list)) × Placed (now list) n 1 ⌝ }
+    ensures { λ r. ⌜ r ≡ noneDoubled (now (list .entry)) n ⌝ }
+{
+    let mut rows = [0u64; 64];
+    let mut starts = [0u64; 1];
+    fill(list, n, &mut rows, &mut starts)
+}
+
 // "A cycle": the rows of the first tags hold none.
 fn none_cyclic<'a>(rows: &'a [u64], starts: &'a [u64], tags: usize) -> bool
     requires { ⌜ (tags ≤ length (now starts)) × (length (now rows) ≡ length (now starts) * 64) ⌝ }
