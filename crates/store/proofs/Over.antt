@@ -5,7 +5,7 @@ use Prim.Native.Nat.{ℕ, _+_, _-_, _≤_, _<_}
 use native.Mathlib.Numerals.{add-one}
 use native.Mathlib.Omega.{arith}
 use lib.ListN.{length, take, drop, set, length-append, length-drop, take-append-drop, List·getD-append}
-use lib.Seq.{length-take-le, take-at, drop-at, getD-append-add, getD-take, getD-drop, set-split, drop-drop, take-suc}
+use lib.Seq.{length-take-le, take-append-le, drop-append-le, take-at, drop-at, getD-append-add, getD-take, getD-drop, set-split, drop-drop, take-suc}
 use Rattle.store.specs.Store.{byteAt, part, over}
 
 -- no bytes over a store leave it as it is
@@ -78,3 +78,12 @@ pub part-next : (s : List ℕ) (from n : ℕ) → from + n < length s → part s
 part-next s from n h =
     ap (part s from) (add-one n) ∙ take-suc (drop from s) n 0 (simp length-drop (omega arith))
     ∙ ap (λ (b : ℕ). part s from n ++ (b ∷ [])) (getD-drop from s n 0)
+
+-- where they stand, any of their parts stands
+pub part-over :
+    (s : List ℕ) (at : ℕ) (bs : List ℕ) (i n : ℕ) → at ≤ length s → i + n ≤ length bs → part (over s at bs) (at + i) n ≡ part bs i n
+part-over s at bs i n h l =
+    let a : length (take at s) ≡ at = length-take-le at s h in
+    let r = drop (at + length bs) s in
+    ap (take n) (sym (drop-drop i at (over s at bs)) ∙ ap (drop i) (drop-at (take at s) (bs ++ r) at a) ∙ drop-append-le i bs r (omega arith))
+    ∙ take-append-le n (drop i bs) r (simp length-drop (omega arith))
