@@ -36,7 +36,7 @@ clear-spec =
     let a = at .before .args in
     let i = at .loop .i in
     let inv = at .loop .inv in
-    (omega arith, length-set (at .loop .s) (a .from + i) 0 ∙ inv .1, ap (λ (s : List ℕ). set s (a .from + i) 0) (inv .2) ∙ turn (a .s .now) (a .from) i (omega arith)))
+    (omega arith, simp length-set (inv .1), ap (λ (s : List ℕ). set s (a .from + i) 0) (inv .2) ∙ turn (a .s .now) (a .from) i (omega arith)))
     (λ c. c .before .loop .inv .1)
     (λ c.
     let a = c .before .before .args in

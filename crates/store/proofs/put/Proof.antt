@@ -43,9 +43,7 @@ put-spec =
     (λ c κs. simp (length-take, length-drop, length-set) (omega arith))
     (λ c. search needs)
     (λ c. search needs)
-    (λ c κs.
-    let a = c .before .before .before .before .before .before .before .args in
-    omega (arith, c .before .before .store .given .1, length-set (a .store .now) (a .at) (length (a .message .now))))
+    (λ c κs. simp length-set (omega (arith, simp length-set at (c .before .before .store .given .1))))
     (λ c. c .before .store2 .given ∙ c .before .before .before .before .before .store .given .1 ∙ simp length-set)
     (λ c.
     let copy = c .before .before .before .before .before .before .copy in

@@ -47,7 +47,7 @@ take-first-spec =
     let i = at .loop .i in
     let inv = at .loop .inv in (
       omega arith,
-      length-set (at .loop .store) (a .at + i) (byteAt (at .loop .store) (a .at + 33 + i)) ∙ inv .1,
+      simp length-set (inv .1),
       ap (λ (s : List ℕ). set s (a .at + i) (byteAt s (a .at + 33 + i))) (inv .2) ∙ turn (a .store .now) (a .at) i (omega arith),
     ))
     (λ c. omega arith)
