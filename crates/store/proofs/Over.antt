@@ -5,7 +5,7 @@ use Prim.Native.Nat.{ℕ, _+_, _-_, _≤_, _<_}
 use native.Mathlib.Numerals.{add-one}
 use native.Mathlib.Omega.{arith}
 use lib.ListN.{length, take, drop, set, length-append, length-drop, take-append-drop, List·getD-append}
-use lib.Seq.{length-take-le, take-append-le, drop-append-le, take-at, drop-at, getD-append-add, getD-take, getD-drop, set-split, drop-drop, take-suc}
+use lib.Seq.{length-take-le, take-append-le, drop-append-le, take-at, drop-at, getD-append-add, getD-take, getD-drop, set-split, drop-drop, take-suc, ext-getD}
 use Rattle.store.specs.Store.{byteAt, part, over}
 
 -- no bytes over a store leave it as it is
@@ -87,3 +87,13 @@ part-over s at bs i n h l =
     let r = drop (at + length bs) s in
     ap (take n) (sym (drop-drop i at (over s at bs)) ∙ ap (drop i) (drop-at (take at s) (bs ++ r) at a) ∙ drop-append-le i bs r (omega arith))
     ∙ take-append-le n (drop i bs) r (simp length-drop (omega arith))
+
+-- parts of equal bytes are equal
+pub part-same :
+    (s t : List ℕ) (j k n : ℕ) → j + n ≤ length s → k + n ≤ length t → ((i : ℕ) → i < n → byteAt s (j + i) ≡ byteAt t (k + i)) → part s j n ≡ part t k n
+part-same s t j k n a b f =
+    let e : length (part s j n) ≡ n = part-length s j n a in
+    ext-getD 0 (part s j n) (part t k n) (e ∙ sym (part-length t k n b))
+    (λ i l.
+    let l : i < n = omega arith in
+    getD-take n (drop j s) i 0 l ∙ getD-drop j s i 0 ∙ f i l ∙ sym (getD-take n (drop k t) i 0 l ∙ getD-drop k t i 0))
