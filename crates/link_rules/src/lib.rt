@@ -4,5 +4,6 @@
 mod rows;
 mod rules;
 
+pub use rules::none_doubled;
 pub use rules::principal_links_hold;
 pub use rules::tag_links_hold;

@@ -6,3 +6,4 @@ pub mod Sets
 pub mod LabelLaws
 pub mod LabelCode
 pub mod LabelBytes
+pub mod Passes

@@ -10,7 +10,7 @@ use Rattle.numbers.specs.Below.{allBelow}
 use Rattle.tables.specs.Things.{objectAt}
 use Rattle.tables.specs.declared.rows.ObjectRow.{ObjectRow}
 use Rattle.row_rules.specs.RowRules.{objectHolds, objectsHold}
-use Rattle.row_rules.proofs.Passes.{mapped, none-passed, one-passed, all-passed}
+use Rattle.numbers.proofs.Passes.{mapped, none-passed, one-passed, all-passed}
 use Rattle.row_rules.proofs.objects.objects_hold.Statement.{statement}
 use Rattle.row_rules.proofs.objects.objects_hold.Tie as tie
 

@@ -11,7 +11,7 @@ use Rattle.tables.specs.Things.{tagAt}
 use Rattle.tables.specs.declared.rows.TagRow.{TagRow}
 use Rattle.row_rules.specs.RowRules.{isSupertag, tagHolds, tagsMade, aboveOf}
 use Rattle.row_rules.proofs.TagRows.{above-le, row-passes}
-use Rattle.row_rules.proofs.Passes.{mapped, none-passed, one-passed, all-passed}
+use Rattle.numbers.proofs.Passes.{mapped, none-passed, one-passed, all-passed}
 use Rattle.row_rules.proofs.tags.tags_made.Statement.{statement}
 use Rattle.row_rules.proofs.tags.tags_made.Tie as tie
 

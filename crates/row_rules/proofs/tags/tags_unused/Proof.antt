@@ -11,7 +11,7 @@ use Rattle.numbers.specs.Below.{allBelow}
 use Rattle.tables.specs.Things.{tagAt}
 use Rattle.tables.specs.declared.rows.TagRow.{TagRow}
 use Rattle.row_rules.specs.RowRules.{isNoTag, tagsUnused}
-use Rattle.row_rules.proofs.Passes.{mapped, none-passed, one-passed, all-passed}
+use Rattle.numbers.proofs.Passes.{mapped, none-passed, one-passed, all-passed}
 use Rattle.row_rules.proofs.tags.tags_unused.Statement.{statement}
 use Rattle.row_rules.proofs.tags.tags_unused.Tie as tie
 

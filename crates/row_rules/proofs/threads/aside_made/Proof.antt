@@ -10,7 +10,7 @@ use lib.ListN.{length}
 use Rattle.numbers.specs.Below.{allBelow}
 use Rattle.numbers.specs.declared.Principal.{Principal}
 use Rattle.row_rules.specs.RowRules.{asideAt, asideMade}
-use Rattle.row_rules.proofs.Passes.{mapped, none-passed, one-passed, all-passed}
+use Rattle.numbers.proofs.Passes.{mapped, none-passed, one-passed, all-passed}
 use Rattle.row_rules.proofs.threads.aside_made.Statement.{statement}
 use Rattle.row_rules.proofs.threads.aside_made.Tie as tie
 

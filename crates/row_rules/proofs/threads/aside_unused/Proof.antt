@@ -11,7 +11,7 @@ use Rattle.numbers.specs.Below.{allBelow}
 use Rattle.numbers.specs.Numbers.{public}
 use Rattle.numbers.specs.declared.Principal.{Principal}
 use Rattle.row_rules.specs.RowRules.{asideAt, asideUnused}
-use Rattle.row_rules.proofs.Passes.{mapped, none-passed, one-passed, all-passed}
+use Rattle.numbers.proofs.Passes.{mapped, none-passed, one-passed, all-passed}
 use Rattle.row_rules.proofs.threads.aside_unused.Statement.{statement}
 use Rattle.row_rules.proofs.threads.aside_unused.Tie as tie
 

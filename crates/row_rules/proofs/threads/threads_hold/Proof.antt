@@ -10,7 +10,7 @@ use Rattle.numbers.specs.Below.{allBelow}
 use Rattle.tables.specs.Things.{threadAt}
 use Rattle.tables.specs.declared.rows.ThreadRow.{ThreadRow}
 use Rattle.row_rules.specs.RowRules.{threadHolds, threadsHold}
-use Rattle.row_rules.proofs.Passes.{mapped, none-passed, one-passed, all-passed}
+use Rattle.numbers.proofs.Passes.{mapped, none-passed, one-passed, all-passed}
 use Rattle.row_rules.proofs.threads.threads_hold.Statement.{statement}
 use Rattle.row_rules.proofs.threads.threads_hold.Tie as tie
 
