@@ -4,11 +4,16 @@ use mathlib.Core.List.{List, [], _∷_}
 use Prim.Native.Nat.{ℕ}
 use lib.ListN.{getD, replicate}
 use Rattle.numbers.specs.declared.Principal.{Principal}
+use Rattle.numbers.specs.declared.Tag.{Tag}
 use Rattle.numbers.specs.declared.flow.LabelPair.{LabelPair}
 use Rattle.numbers.specs.Numbers.{public, office}
+use Rattle.links.specs.declared.authority.Rooted.{Rooted}
+use Rattle.links.specs.declared.authority.Lineage.{Lineage}
+use Rattle.links.specs.declared.authority.Lineage.the-variants as lineage
 use Rattle.tables.specs.declared.rows.ThreadRow.{ThreadRow}
 use Rattle.tables.specs.declared.rows.TagRow.{TagRow}
-use Rattle.tables.specs.declared.rows.Rank.the-variants.{Supertag}
+use Rattle.tables.specs.declared.rows.Rank.{Rank}
+use Rattle.tables.specs.declared.rows.Rank.the-variants.{Supertag, SubtagOf}
 use Rattle.tables.specs.declared.rows.ObjectRow.{ObjectRow}
 use Rattle.tables.specs.declared.rows.What.the-variants.{Free}
 use Rattle.tables.specs.declared.Tables.{Tables}
@@ -56,3 +61,15 @@ freshTables =
       kinds = replicate 64 noTag;
       objects = replicate 64 noObject;
     }
+
+-- a tag and "a root principal, its maker"
+abbrev pub rootedAt : List TagRow → Tag → Rooted
+rootedAt kinds t = record { tag = t; root = tagAt kinds (t .0) .root }
+
+-- "each a supertag or a subtag of one supertag"
+abbrev pub lineageBy : List TagRow → Tag → Rank → Lineage
+lineageBy kinds t Supertag = lineage.Supertag (rootedAt kinds t)
+lineageBy kinds t (SubtagOf above) = lineage.Subtag (rootedAt kinds t) (rootedAt kinds above)
+
+abbrev pub lineageOf : List TagRow → Tag → Lineage
+lineageOf kinds t = lineageBy kinds t (tagAt kinds (t .0) .rank)
