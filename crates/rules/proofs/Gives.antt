@@ -5,18 +5,23 @@ use mathlib.Core.List.{List}
 use Prim.Native.Nat.{ℕ, _≤_, _<_}
 use native.Mathlib.Omega.{arith}
 use borrow.Author.Tests.{leb-true}
+use lib.Dec.{leb}
 use lib.ListN.{length}
 use Rattle.numbers.proofs.Bools.{and-left, and-right}
 use Rattle.numbers.proofs.Below.{all-each}
 use Rattle.link_rules.specs.LinkRules.{inLimits, linksHold}
 use Rattle.link_rules.proofs.RuleLaws.{Limits, limits-say}
+use Rattle.memory.specs.declared.Memory.{Memory}
+use Rattle.memory.specs.Remembered.{Fits}
+use Rattle.tables.specs.declared.Tables.{Tables}
 use Rattle.tables.specs.Things.{objectAt}
 use Rattle.tables.specs.declared.rows.ObjectRow.{ObjectRow}
 use Rattle.tables.specs.declared.rows.What.{What}
 use Rattle.tables.specs.declared.rows.What.the-variants.{Free, Cell, Queue, Lock}
 use Rattle.row_rules.specs.RowRules.{whatInLimits, whatLabels, objectHolds, objectsHold, tagsHold, threadsHold}
 use Rattle.store_rules.specs.StoreRules.{placesUsed}
-use Rattle.rules.specs.Rules.{listsHold, rowsHold}
+use Rattle.memory_rules.specs.MemoryRules.{sizeHolds}
+use Rattle.rules.specs.Rules.{listsHold, rowsHold, messagesHold, holdButTruth}
 
 -- a list that obeys its rules is within its limits
 pub list-limits : (l : List ℕ) (n tags principals : ℕ) → linksHold l n tags principals ≡ true → Limits (length l) n tags principals
@@ -38,3 +43,14 @@ unfolding objectsHold objectHolds
 places-fit tags rows e o low =
     let row = objectAt rows o in
     used-le (row .what) (and-left (whatInLimits (row .what)) (whatLabels tags (row .what) (row .labels)) (all-each 64 (λ k. objectHolds tags (objectAt rows k)) e o low))
+
+-- the memory is within its size
+pub memory-fits : (t : Tables) (m : Memory) (l g s : List ℕ) → holdButTruth t m l g s ≡ true → Fits m
+memory-fits t m l g s e =
+    let lists = listsHold l (t .links) g (t .grants) (t .tags) (t .principals) in
+    let rows = rowsHold (t .kinds) (t .threads) (t .objects) (t .tags) (t .principals) in
+    let sizes = and-left (sizeHolds (m .size) (m .held)) _ (and-right (messagesHold s (t .objects)) _ (and-right rows _ (and-right lists _ e))) in
+    record {
+      within = leb-true (m .held) (m .size) (and-right (leb (m .size) 64) _ sizes);
+      small = leb-true (m .size) 64 (and-left (leb (m .size) 64) _ sizes);
+    }

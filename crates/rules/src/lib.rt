@@ -1,9 +1,13 @@
-// The rules of 9 (01, "Refusal numbers") on any tables at all, but for the truth of remembered pairs.
+// The rules of 9 (01, "Refusal numbers") on any tables at all. The truth of remembered pairs stands apart,
+// because the step behind the check is defined without it.
+mod truth;
+
 ghost use mathlib.Core.Path.{_≡_};
 ghost use Prim.Native.Nat.{ℕ, _≤_, _<_};
 ghost use Rattle.tables.specs.Things.{objectAt};
 ghost use Rattle.store_rules.specs.StoreRules.{placesUsed};
-ghost use Rattle.rules.specs.Rules.{listsHold, rowsHold, messagesHold, holdButTruth};
+ghost use Rattle.rules.specs.Rules.{listsHold, rowsHold, messagesHold, holdButTruth, breakNoRule};
+use crate::truth::pairs_true;
 use link_rules::principal_links_hold;
 use link_rules::tag_links_hold;
 use memory::Memory;
@@ -94,4 +98,20 @@ pub fn hold_but_truth<'a>(
     }
     let messages = messages_hold(store, objects);
     messages & memory_holds(m, tags, principals)
+}
+
+// All tables, however they are: they break no rule.
+pub fn break_no_rule<'a>(
+    t: Tables,
+    m: Memory,
+    links: &'a [u32],
+    grants: &'a [u32],
+    store: &'a [u8],
+) -> bool
+    ensures { λ r. ⌜ r ≡ breakNoRule t m (now (links .entry)) (now (grants .entry)) (now (store .entry)) ⌝ }
+{
+    if !hold_but_truth(t, m, links, grants, store) {
+        return false;
+    }
+    pairs_true(t, m, links, grants)
 }
