@@ -1,0 +1,60 @@
+// The state of the monitor: the tables and, beside them, the remembered answers. How it starts.
+ghost use mathlib.Core.Path.{_≡_};
+ghost use Rattle.state.specs.Start.{emptyMemory, started, cleared};
+use memory::Memory;
+use numbers::REMEMBERED;
+use tables::Tables;
+use tables::fresh_tables;
+
+pub struct State {
+    pub tables: Tables,
+    pub memory: Memory,
+}
+
+// A start: 0, or the refusal 11, and the state.
+pub struct Started {
+    pub status: u8,
+    pub state: State,
+}
+
+// A memory of this size that holds nothing and was not asked yet.
+fn empty_memory(size: usize) -> Memory
+    ensures { λ r. ⌜ r ≡ emptyMemory size ⌝ }
+{
+    Memory {
+        size,
+        held: 0,
+        pairs: [0; 64],
+        questions: 0,
+        hits: 0,
+    }
+}
+
+// "Starting with a memory size over 64 is refused as 11 and gives the fresh state with size 0."
+pub fn start(size: usize) -> Started
+    ensures { λ r. ⌜ r ≡ started size ⌝ }
+{
+    let tables = fresh_tables();
+    if REMEMBERED < size {
+        let memory = empty_memory(0);
+        return Started {
+            status: 11,
+            state: State { tables, memory },
+        };
+    }
+    let memory = empty_memory(size);
+    Started {
+        status: 0,
+        state: State { tables, memory },
+    }
+}
+
+// "The host may clear the memory between requests; this leaves the counters."
+pub fn clear(s: State) -> State
+    ensures { λ r. ⌜ r ≡ cleared s ⌝ }
+{
+    let tables = s.tables;
+    let old = s.memory;
+    let memory = memory::clear(old);
+    State { tables, memory }
+}
