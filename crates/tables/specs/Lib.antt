@@ -1,1 +1,2 @@
 pub mod Things
+pub mod Free

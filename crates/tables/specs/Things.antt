@@ -36,8 +36,11 @@ abbrev pub noObject : ObjectRow
 noObject = record { what = Free; labels = noLabels }
 
 -- the row of a number; past the last there is a row of nothing
+abbrev pub pastThread : ThreadRow
+pastThread = record { live = false; principal = nobody; labels = noLabels; calls = 0; aside = [] }
+
 abbrev pub threadAt : List ThreadRow → ℕ → ThreadRow
-threadAt rows n = getD rows n (record { live = false; principal = nobody; labels = noLabels; calls = 0; aside = [] })
+threadAt rows n = getD rows n pastThread
 
 abbrev pub tagAt : List TagRow → ℕ → TagRow
 tagAt rows n = getD rows n noTag

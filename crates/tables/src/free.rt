@@ -1,0 +1,50 @@
+// "New threads and objects take the lowest free number, freed ones included."
+ghost use mathlib.Core.Path.{_≡_};
+ghost use Rattle.tables.specs.Free.{isFree, freeThread, freeObject};
+use crate::rows::ObjectRow;
+use crate::rows::ThreadRow;
+use crate::rows::What;
+use numbers::OBJECTS;
+use numbers::THREADS;
+
+// The lowest thread number that is not live, or 16.
+pub fn free_thread(rows: [ThreadRow; 16]) -> usize
+    ensures { λ r. ⌜ r ≡ freeThread rows ⌝ }
+{
+    let mut i = 0;
+    while i < THREADS {
+        let row = rows[i];
+        if !row.live {
+            return i;
+        }
+        i += 1;
+    }
+    i
+}
+
+fn is_free(what: What) -> bool
+    ensures { λ r. ⌜ r ≡ isFree what ⌝ }
+{
+    match what {
+        What::Free => true,
+        What::Cell => false,
+        What::Queue(_) => false,
+        What::Lock(_) => false,
+    }
+}
+
+// The lowest object number that is free, or 64.
+pub fn free_object(rows: [ObjectRow; 64]) -> usize
+    ensures { λ r. ⌜ r ≡ freeObject rows ⌝ }
+{
+    let mut i = 0;
+    while i < OBJECTS {
+        let row = rows[i];
+        let what = row.what;
+        if is_free(what) {
+            return i;
+        }
+        i += 1;
+    }
+    i
+}
