@@ -3,25 +3,22 @@
 //! counts with anything. A seed fixes all that is drawn from it.
 
 use crate::questions::{List, Tables};
+use second::generate::random;
 use std::collections::BTreeSet;
 
 const PUBLIC: u32 = 0;
 const PLACES: usize = 256;
 
-/// A source of random numbers: splitmix64.
-pub struct Random(u64);
+/// A source of random numbers, those of the second program, for 32-bit numbers.
+pub struct Random(random::Random);
 
 impl Random {
     pub fn new(seed: u64) -> Random {
-        Random(seed)
+        Random(random::Random::new(seed))
     }
 
     pub fn draw(&mut self) -> u64 {
-        self.0 = self.0.wrapping_add(0x9E37_79B9_7F4A_7C15);
-        let mut value = self.0;
-        value = (value ^ (value >> 30)).wrapping_mul(0xBF58_476D_1CE4_E5B9);
-        value = (value ^ (value >> 27)).wrapping_mul(0x94D0_49BB_1331_11EB);
-        value ^ (value >> 31)
+        self.0.draw()
     }
 
     /// A number from 0 up to but not including `end`, which is not 0.

@@ -9,9 +9,9 @@ mod questions;
 mod reference;
 mod time;
 
+use second::command::{clock, number, run, wrong, Failure};
 use std::io::{self, Write};
 use std::process::ExitCode;
-use std::time::{SystemTime, UNIX_EPOCH};
 
 const HELP: &str = "\
 bench: the proved link functions beside plain Rust and the second program
@@ -28,72 +28,31 @@ out it is drawn from the clock and printed. Exit status: 0 if all went well, 1 i
 the answers differ or something failed, 2 for wrong arguments.
 ";
 
-enum Failure {
-    /// Wrong arguments.
-    Usage(String),
-    Io(io::Error),
-    /// Told already.
-    Difference,
-}
-
-impl From<io::Error> for Failure {
-    fn from(error: io::Error) -> Failure {
-        Failure::Io(error)
-    }
-}
-
 fn main() -> ExitCode {
-    let arguments: Vec<String> = std::env::args_os()
-        .skip(1)
-        .map(|argument| argument.to_string_lossy().into_owned())
-        .collect();
-    let arguments: Vec<&str> = arguments.iter().map(String::as_str).collect();
-    match command(&arguments) {
-        Ok(()) => ExitCode::SUCCESS,
-        Err(Failure::Difference) => ExitCode::from(1),
-        Err(Failure::Io(error)) => {
-            eprintln!("bench: {}", error);
-            ExitCode::from(1)
-        }
-        Err(Failure::Usage(wrong)) => {
-            eprintln!("bench: {}\nTry: bench --help", wrong);
-            ExitCode::from(2)
-        }
-    }
+    run("bench", command)
 }
 
 fn command(arguments: &[&str]) -> Result<(), Failure> {
     match arguments {
         ["agree", cases] => agree(cases, clock()),
         ["agree", cases, seed] => agree(cases, number(seed, "SEED")?),
-        ["agree", ..] => Err(Failure::Usage("agree wants: N [SEED]".to_string())),
+        ["agree", ..] => Err(wrong("agree wants: N [SEED]")),
         ["time"] => Ok(time::time(&mut io::stdout())?),
-        ["time", ..] => Err(Failure::Usage("time takes no arguments".to_string())),
+        ["time", ..] => Err(wrong("time takes no arguments")),
         ["--help"] | ["-h"] | ["help"] => Ok(io::stdout().write_all(HELP.as_bytes())?),
-        [] => Err(Failure::Usage("which command?".to_string())),
-        [first, ..] => Err(Failure::Usage(format!("there is no command {}", first))),
+        [] => Err(wrong("which command?")),
+        [first, ..] => Err(wrong(format!("there is no command {}", first))),
     }
 }
 
 fn agree(cases: &str, seed: u64) -> Result<(), Failure> {
     let cases = number(cases, "N")?;
     if cases == 0 {
-        return Err(Failure::Usage("N is at least 1".to_string()));
+        return Err(wrong("N is at least 1"));
     }
     if agree::agree(cases, seed, &mut io::stdout())? {
         Ok(())
     } else {
         Err(Failure::Difference)
     }
-}
-
-fn number(argument: &str, name: &str) -> Result<u64, Failure> {
-    let not_a_number = |_| Failure::Usage(format!("{} is no number: {}", name, argument));
-    argument.parse().map_err(not_a_number)
-}
-
-/// A seed from the clock; every run prints its seed.
-fn clock() -> u64 {
-    let since = SystemTime::now().duration_since(UNIX_EPOCH);
-    since.map_or(0, |time| time.as_micros() as u64)
 }

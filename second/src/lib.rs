@@ -4,6 +4,7 @@
 
 pub mod answers;
 pub mod authority;
+pub mod command;
 pub mod compare;
 pub mod coverage;
 pub mod entry;

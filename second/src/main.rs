@@ -1,16 +1,15 @@
 //! The commands of the second program. Without a command it is the line program
 //! of document 01, section "Lines": standard input to standard output, M = 8.
 
+use second::command::{clock, number, run, wrong, Failure};
 use second::compare::compare;
 use second::coverage::Coverage;
 use second::generate::{generate, nth, profile, PROFILES};
 use second::lines;
 use second::monitor::start;
 use second::things::{LINE_MEMORY, MAX_MEMORY};
-use std::fmt::Display;
 use std::io::{self, BufWriter, Write};
 use std::process::ExitCode;
-use std::time::{SystemTime, UNIX_EPOCH};
 
 const HELP: &str = "\
 second: the monitor of document 01 in plain Rust, to compare another one with
@@ -31,51 +30,21 @@ drawn from the clock and printed. Exit status: 0 if all went well, 1 if a
 comparison found a difference or something failed, 2 for wrong arguments.
 ";
 
-enum Failure {
-    /// Wrong arguments.
-    Usage(String),
-    Io(io::Error),
-    /// Told already.
-    Difference,
-}
-
-impl From<io::Error> for Failure {
-    fn from(error: io::Error) -> Failure {
-        Failure::Io(error)
-    }
-}
-
 fn main() -> ExitCode {
-    let arguments: Vec<String> = std::env::args_os()
-        .skip(1)
-        .map(|argument| argument.to_string_lossy().into_owned())
-        .collect();
-    let arguments: Vec<&str> = arguments.iter().map(String::as_str).collect();
-    match command(&arguments) {
-        Ok(()) => ExitCode::SUCCESS,
-        Err(Failure::Difference) => ExitCode::from(1),
-        Err(Failure::Io(error)) => {
-            eprintln!("second: {}", error);
-            ExitCode::from(1)
-        }
-        Err(Failure::Usage(wrong)) => {
-            eprintln!("second: {}\nTry: second --help", wrong);
-            ExitCode::from(2)
-        }
-    }
+    run("second", command)
 }
 
 fn command(arguments: &[&str]) -> Result<(), Failure> {
     match arguments {
-        [] | ["run"] => run(LINE_MEMORY),
-        ["run", "--memory", size] => run(number(size, "M")?),
+        [] | ["run"] => run_lines(LINE_MEMORY),
+        ["run", "--memory", size] => run_lines(number(size, "M")?),
         ["generate", seed] => print_list(number(seed, "SEED")?, PROFILES[0].name),
         ["generate", seed, name] => print_list(number(seed, "SEED")?, name),
         ["profiles"] => print_profiles(),
-        ["coverage", lists] => print_coverage(number(lists, "N")?, clock()?),
+        ["coverage", lists] => print_coverage(number(lists, "N")?, told_clock()?),
         ["coverage", lists, seed] => print_coverage(number(lists, "N")?, number(seed, "SEED")?),
         ["compare", lists, "--", program @ ..] => {
-            print_comparison(number(lists, "N")?, clock()?, program)
+            print_comparison(number(lists, "N")?, told_clock()?, program)
         }
         ["compare", lists, seed, "--", program @ ..] => {
             print_comparison(number(lists, "N")?, number(seed, "SEED")?, program)
@@ -89,24 +58,14 @@ fn command(arguments: &[&str]) -> Result<(), Failure> {
     }
 }
 
-fn wrong(words: impl Display) -> Failure {
-    Failure::Usage(words.to_string())
-}
-
-fn number<T: std::str::FromStr>(argument: &str, name: &str) -> Result<T, Failure> {
-    let not_a_number = |_| wrong(format!("{} is no number: {}", name, argument));
-    argument.parse().map_err(not_a_number)
-}
-
 /// A seed from the clock, told on the error stream so that it can be given again.
-fn clock() -> Result<u64, Failure> {
-    let since = SystemTime::now().duration_since(UNIX_EPOCH);
-    let seed = since.map_or(0, |time| time.as_micros() as u64);
+fn told_clock() -> Result<u64, Failure> {
+    let seed = clock();
     writeln!(io::stderr(), "seed {}", seed)?;
     Ok(seed)
 }
 
-fn run(memory_size: usize) -> Result<(), Failure> {
+fn run_lines(memory_size: usize) -> Result<(), Failure> {
     let (mut state, started) = start(memory_size);
     if let Err(refusal) = started {
         let told = format!("a memory size over {} is refused as", MAX_MEMORY);
