@@ -4,9 +4,9 @@ use mathlib.Core.List.{List, [], _∷_, _++_, append-assoc}
 use Prim.Native.Nat.{ℕ, _+_, _-_, _≤_, _<_}
 use native.Mathlib.Numerals.{add-one}
 use native.Mathlib.Omega.{arith}
-use lib.ListN.{length, take, drop, set, length-append, length-drop, take-append-drop, List·getD-append}
+use lib.ListN.{length, take, drop, set, replicate, length-append, length-drop, length-replicate, replicate-append-replicate, take-append-drop, List·getD-append}
 use lib.Seq.{length-take-le, take-append-le, drop-append-le, take-at, drop-at, getD-append-add, getD-take, getD-drop, set-split, drop-drop, take-suc, ext-getD}
-use Rattle.store.specs.Store.{byteAt, part, over}
+use Rattle.store.specs.Store.{byteAt, part, over, cleared}
 
 -- no bytes over a store leave it as it is
 pub over-none : (s : List ℕ) (at : ℕ) → over s at [] ≡ s
@@ -97,3 +97,8 @@ part-same s t j k n a b f =
     (λ i l.
     let l : i < n = omega arith in
     getD-take n (drop j s) i 0 l ∙ getD-drop j s i 0 ∙ f i l ∙ sym (getD-take n (drop k t) i 0 l ∙ getD-drop k t i 0))
+
+-- one byte more is cleared
+pub cleared-next : (s : List ℕ) (from i : ℕ) → from + i < length s → set (cleared s from i) (from + i) 0 ≡ cleared s from (i + 1)
+cleared-next s from i h =
+    over-next s from (replicate i 0) i 0 (length-replicate i 0) h ∙ ap (over s from) (replicate-append-replicate i 1 0)

@@ -1,18 +1,13 @@
 -- `store::clear` meets its contract: the loop has cleared the bytes passed. Assumes nothing.
 use mathlib.Core.Path.{_≡_, refl, sym, ap, _∙_}
 use mathlib.Core.List.{List}
-use Prim.Native.Nat.{ℕ, _+_, _-_, _≤_, _<_}
+use Prim.Native.Nat.{ℕ, _+_, _-_, _≤_}
 use native.Mathlib.Omega.{arith}
-use lib.ListN.{length, set, replicate, length-set, length-replicate, replicate-append-replicate}
-use Rattle.store.specs.Store.{over, cleared}
-use Rattle.store.proofs.Over.{over-none, over-next}
+use lib.ListN.{length, set, length-set}
+use Rattle.store.specs.Store.{cleared}
+use Rattle.store.proofs.Over.{over-none, cleared-next}
 use Rattle.store.proofs.clear.Statement.{statement}
 use Rattle.store.proofs.clear.Tie as tie
-
--- one byte more
-turn : (s : List ℕ) (from i : ℕ) → from + i < length s → set (cleared s from i) (from + i) 0 ≡ cleared s from (i + 1)
-turn s from i h =
-    over-next s from (replicate i 0) i 0 (length-replicate i 0) h ∙ ap (over s from) (replicate-append-replicate i 1 0)
 
 abbrev Inv-loop : tie.InvT-loop
 Inv-loop s₀ from n i₀ s i = (i ≤ n) × (length s ≡ length s₀) × (s ≡ cleared s₀ from i)
@@ -36,7 +31,7 @@ clear-spec =
     let a = at .before .args in
     let i = at .loop .i in
     let inv = at .loop .inv in
-    (omega arith, simp length-set (inv .1), ap (λ (s : List ℕ). set s (a .from + i) 0) (inv .2) ∙ turn (a .s .now) (a .from) i (omega arith)))
+    (omega arith, simp length-set (inv .1), ap (λ (s : List ℕ). set s (a .from + i) 0) (inv .2) ∙ cleared-next (a .s .now) (a .from) i (omega arith)))
     (λ c. c .before .loop .inv .1)
     (λ c.
     let a = c .before .before .args in
