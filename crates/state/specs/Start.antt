@@ -1,8 +1,9 @@
 -- How the monitor starts, and the host's clearing of the memory (01, "Things and numbers", "Remembered answers"). Assumes nothing.
 use mathlib.Core.Bool.{cond}
+use mathlib.Core.List.{List}
 use Prim.Native.Nat.{ℕ}
 use lib.Dec.{ltb}
-use lib.ListN.{replicate}
+use lib.ListN.{length, replicate}
 use Rattle.numbers.specs.Numbers.{mostRemembered}
 use Rattle.memory.specs.declared.Memory.{Memory}
 use Rattle.memory.specs.Remembered.{emptied}
@@ -22,6 +23,10 @@ abbrev pub started : ℕ → Started
 started size =
     cond (ltb mostRemembered size) (record { status = 11; state = freshState 0 })
     (record { status = 0; state = freshState size })
+
+-- "Unused places are zero": a lent list or store at the start
+abbrev pub zeroed : List ℕ → List ℕ
+zeroed l = replicate (length l) 0
 
 -- "The host may clear the memory between requests; this leaves the counters."
 abbrev pub cleared : State → State

@@ -1,8 +1,9 @@
 // The state of the monitor: the tables and, beside them, the remembered answers. How it starts.
 ghost use mathlib.Core.Path.{_≡_};
-ghost use Rattle.state.specs.Start.{emptyMemory, started, cleared};
+ghost use Rattle.state.specs.Start.{emptyMemory, started, zeroed, cleared};
 use memory::Memory;
 use numbers::REMEMBERED;
+use store::clear_numbers;
 use tables::Tables;
 use tables::fresh_tables;
 
@@ -31,7 +32,7 @@ fn empty_memory(size: usize) -> Memory
 }
 
 // "Starting with a memory size over 64 is refused as 11 and gives the fresh state with size 0."
-pub fn start(size: usize) -> Started
+fn fresh(size: usize) -> Started
     ensures { λ r. ⌜ r ≡ started size ⌝ }
 {
     let tables = fresh_tables();
@@ -47,6 +48,23 @@ pub fn start(size: usize) -> Started
         status: 0,
         state: State { tables, memory },
     }
+}
+
+// The fresh state: "no links, tags or objects". The lent lists and the store become zero, whatever their
+// lengths; one of another length is refused 9 by the first request.
+pub fn start(size: usize, links: &mut [u32], grants: &mut [u32], store: &mut [u8]) -> Started
+    ensures { λ r. ⌜ r ≡ started size ⌝ }
+    ensures { λ _. ⌜ now (links .exit) ≡ zeroed (now (links .entry)) ⌝ }
+    ensures { λ _. ⌜ now (grants .exit) ≡ zeroed (now (grants .entry)) ⌝ }
+    ensures { λ _. ⌜ now (store .exit) ≡ zeroed (now (store .entry)) ⌝ }
+{
+    let n = links.len();
+    clear_numbers(links, 0, n);
+    let k = grants.len();
+    clear_numbers(grants, 0, k);
+    let bytes = store.len();
+    store::clear(store, 0, bytes);
+    fresh(size)
 }
 
 // "The host may clear the memory between requests; this leaves the counters."

@@ -1,7 +1,7 @@
 -- What a store holds after a message is put or taken, or bytes are cleared. Assumes nothing.
 use mathlib.Core.Path.{_≡_, ap, _∙_}
 use mathlib.Core.Bool.{Bool, true}
-use mathlib.Core.List.{List, _++_}
+use mathlib.Core.List.{List, _++_, append-nil}
 use mathlib.Core.Logic.{_↔_, _⊎_, inl, inr, ⊎-elim}
 use Prim.Native.Nat.{ℕ, _+_, _*_, _-_, _≤_, _<_}
 use native.Mathlib.Numerals.{add-one}
@@ -9,7 +9,7 @@ use native.Mathlib.Omega.{arith}
 use borrow.Author.Tests.{eq-eqb, eqb-true}
 use lib.Dec.{eqb}
 use lib.ListN.{length, drop, replicate, length-append, length-replicate, getD-replicate, List·getD-append}
-use lib.Seq.{take-append-seam, getD-append-add, getD-take, getD-drop}
+use lib.Seq.{drop-length, take-append-seam, getD-append-add, getD-take, getD-drop}
 use Rattle.numbers.proofs.Below.{all-each, each-all}
 use Rattle.store.specs.Store.{byteAt, part, messageAt, placed, put, tookFirst, cleared, zeros}
 use Rattle.store.proofs.Over.{over-length, over-before, over-inside, over-after, part-length, part-over, part-same}
@@ -157,3 +157,9 @@ pub zeros-cleared : (s : List ℕ) (from n : ℕ) → from + n ≤ length s → 
 zeros-cleared s from n h =
     zeros-is (cleared s from n) from n .1
     (λ i l. over-inside s from (replicate n 0) i (omega arith) (omega (arith, length-replicate {A = ℕ} n 0)) ∙ getD-replicate n i 0 0 l)
+
+-- a list that is cleared whole is zeros
+pub cleared-all : (s : List ℕ) → cleared s 0 (length s) ≡ replicate (length s) 0
+cleared-all s =
+    let e : 0 + length (replicate {A = ℕ} (length s) 0) ≡ length s = simp length-replicate (omega arith) in
+    ap (λ (k : ℕ). replicate (length s) 0 ++ drop k s) e ∙ ap (λ (r : List ℕ). replicate (length s) 0 ++ r) (drop-length s) ∙ append-nil (replicate (length s) 0)
