@@ -2,23 +2,23 @@
 use mathlib.Core.Path.{_≡_, sym, ap, ap₂, subst, _∙_}
 use mathlib.Core.Bool.{Bool, true, not, _&&_, _||_, or-comm}
 use mathlib.Core.List.{List}
-use mathlib.Core.Logic.{⊎-elim}
-use Prim.Native.Nat.{ℕ, _+_, _*_, _/_, _%_, _^_, _<_, _≤_}
+use Prim.Native.Nat.{ℕ, _+_, _*_, _/_, _^_, _<_, _≤_}
 use native.Mathlib.Nat.{div-add-mod', div-div-eq-div-mul, mod-lt}
 use native.Mathlib.Omega.{arith}
-use borrow.Author.Tests.{eqb-true, eqb-false, eq-eqb}
-use lib.Bits.{bitAnd, bitOr}
+use borrow.Author.Tests.{eqb-true, eq-eqb}
+use lib.Bits.{bitAnd}
 use lib.Dec.{eqb, lit<}
-use lib.ListN.{length, getD, set, take}
-use lib.Seq.{getD-set-same, getD-set-other, getD-take, length-take-le}
+use lib.ListN.{length, getD, take}
+use lib.Seq.{getD-take, length-take-le}
 use Rattle.numbers.specs.Below.{allBelow, anyBelow}
 use Rattle.numbers.specs.Sets.{contains}
-use Rattle.numbers.proofs.Bools.{and-left, and-right, and-both, both-ways, either}
+use Rattle.numbers.proofs.Bools.{and-left, and-right, and-both, both-ways}
 use Rattle.numbers.proofs.Below.{all-next, any-next, any-same, any-is, all-same}
-use Rattle.numbers.proofs.Sets.{contains-add, contains-test-not}
+use Rattle.numbers.proofs.Sets.{contains-test-not}
 use Rattle.links.proofs.PathLaws.{Among}
 use Rattle.links.proofs.LinkLaws.{Names, number-joins, joins-number}
 use Rattle.links.proofs.CycleLaws.{noCycle-same}
+use Rattle.links.proofs.Gathering.{withMark, mark-there}
 use Rattle.link_rules.proofs.RowLaws.{bit-joins, joins-bit}
 use Rattle.link_rules.specs.Rows.{row, rowLinks, Leaving}
 use Rattle.links.specs.Cycles.{noCycle}
@@ -28,35 +28,16 @@ use Rattle.links.specs.declared.lists.Graph.the-variants.{OfTag}
 use Rattle.link_rules.specs.LinkRules.{tagIn, fromIn, toIn, at, noneDoubled, noneCyclic}
 use Rattle.link_rules.specs.Filling.{rowOf, Placed, Marks, Filled}
 
-same-test : (a b : ℕ) → eqb a b ≡ eqb b a
-same-test a b = both-ways (eqb a b) (eqb b a) (λ e. eq-eqb b a (sym (eqb-true a b e))) (λ e. eq-eqb a b (sym (eqb-true b a e)))
-
--- a row with one more mark
-abbrev pub marked : List ℕ → ℕ → ℕ → List ℕ
-marked rows k q = set rows k (bitOr (getD rows k 0) ((1 * 2 ^ q) % 2 ^ 64))
-
 module _ (l : List ℕ) (i : ℕ) (key mark : ℕ → ℕ) (rows : List ℕ) (w : Marks l i key mark rows) where
-  pub marks-next : key (at l i) < length rows → mark (at l i) < 64 → Marks l (i + 1) key mark (marked rows (key (at l i)) (mark (at l i)))
+  pub marks-next : key (at l i) < length rows → mark (at l i) < 64 → Marks l (i + 1) key mark (withMark rows (key (at l i)) (mark (at l i)))
   marks-next h low k q =
-      ⊎-elim
-      (λ t.
-      let e : key (at l i) ≡ k = eqb-true (key (at l i)) k t in
-      ap (λ (n : ℕ). contains (getD (marked rows (key (at l i)) (mark (at l i))) n 0) q) (sym e)
-      ∙ ap (λ (y : ℕ). contains y q) (getD-set-same rows (key (at l i)) (bitOr (getD rows (key (at l i)) 0) ((1 * 2 ^ mark (at l i)) % 2 ^ 64)) 0 h)
-      ∙ contains-add (getD rows (key (at l i)) 0) (mark (at l i)) low q
-      ∙ ap₂ _||_ (ap (λ (n : ℕ). contains (getD rows n 0) q) e ∙ w k q) (same-test q (mark (at l i)))
-      ∙ or-comm (anyBelow i (said k q)) (eqb (mark (at l i)) q)
-      ∙ ap (λ (b : Bool). (b && eqb (mark (at l i)) q) || anyBelow i (said k q)) (sym t)
-      ∙ sym (any-next i (said k q)))
-      (λ t.
-      ap (λ (y : ℕ). contains y q) (getD-set-other rows (key (at l i)) k (bitOr (getD rows (key (at l i)) 0) ((1 * 2 ^ mark (at l i)) % 2 ^ 64)) 0 (λ e. eqb-false (key (at l i)) k t (sym e)))
-      ∙ w k q
-      ∙ ap (λ (b : Bool). (b && eqb (mark (at l i)) q) || anyBelow i (said k q)) (sym t)
-      ∙ sym (any-next i (said k q)))
-      (either (eqb (key (at l i)) k))
+      mark-there rows (key (at l i)) (mark (at l i)) h low k q
+      ∙ ap (λ (b : Bool). b || said i) (w k q)
+      ∙ or-comm (anyBelow i said) (said i)
+      ∙ sym (any-next i said)
     where
-      said : ℕ → ℕ → ℕ → Bool
-      said k q j = eqb (key (at l j)) k && eqb (mark (at l j)) q
+      said : ℕ → Bool
+      said j = eqb (key (at l j)) k && eqb (mark (at l j)) q
 
 -- ---- a link met again
 

@@ -1,19 +1,16 @@
 -- What a yes of a rule gives, and rows with nothing in them. Assumes nothing.
-use mathlib.Core.Path.{_≡_, sym, ap, subst, _∙_}
+use mathlib.Core.Path.{_≡_}
 use mathlib.Core.Bool.{true, _&&_}
 use mathlib.Core.List.{List}
-use mathlib.Core.Logic.{⊎-elim}
 use Prim.Native.Nat.{ℕ, _≤_}
 use native.Mathlib.Nat.{lt-of-lt-of-le}
-use borrow.Author.Tests.{eqb-true, leb-true, leb-false, ltb-true}
+use borrow.Author.Tests.{eqb-true, leb-true, ltb-true}
 use lib.Dec.{eqb, leb, ltb}
-use lib.ListN.{getD, replicate, length-replicate, getD-replicate, List·getD-eq-default}
-use lib.Pow.{pow-pos}
+use lib.ListN.{replicate}
 use Rattle.numbers.specs.Below.{anyBelow}
-use Rattle.numbers.specs.Sets.{contains}
-use Rattle.numbers.proofs.Bools.{and-left, and-right, either}
+use Rattle.numbers.proofs.Bools.{and-left, and-right}
 use Rattle.numbers.proofs.Below.{all-each}
-use Rattle.numbers.proofs.Sets.{contains-above}
+use Rattle.links.proofs.Gathering.{none-marked}
 use Rattle.link_rules.specs.LinkRules.{tagIn, fromIn, toIn, at, made, inLimits, allMade}
 use Rattle.link_rules.specs.Filling.{Placed, Marks}
 
@@ -52,18 +49,7 @@ made-placed l n tags principals rooms h g e i low =
       lt-of-lt-of-le (ltb-true (toIn (at l i)) principals (and-right p q (and-right t (p && q) here))) g,
     )
 
-zeros : ℕ → List ℕ
-zeros k = replicate k 0
-
-all-zero : (k j : ℕ) → _≡_ {A = ℕ} (getD (zeros k) j 0) 0
-unfolding zeros
-all-zero k j =
-    ⊎-elim
-    (λ t. List·getD-eq-default (zeros k) 0 {n = j} (subst (λ (m : ℕ). m ≤ j) (sym (length-replicate {A = ℕ} k 0)) (leb-true k j t)))
-    (λ t. getD-replicate {A = ℕ} k j 0 0 (leb-false k j t))
-    (either (leb k j))
-
 -- rows of zeros hold no links
 pub marks-none : (l : List ℕ) (key mark : ℕ → ℕ) (k : ℕ) → Marks l 0 key mark (replicate k 0)
-unfolding anyBelow zeros
-marks-none l key mark k j q = ap (λ (x : ℕ). contains x q) (all-zero k j) ∙ contains-above 0 q (pow-pos q)
+unfolding anyBelow
+marks-none l key mark k = none-marked k

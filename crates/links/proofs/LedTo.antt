@@ -3,23 +3,22 @@ use mathlib.Core.Path.{_≡_, refl, sym, subst, _∙_}
 use mathlib.Core.Bool.{Bool, true, false, _&&_}
 use mathlib.Core.List.{List}
 use mathlib.Core.Logic.{_⊎_, inl, inr, ⊎-elim}
-use Prim.Native.Nat.{ℕ, _+_, _/_, _^_, _≤_, _<_}
-use native.Mathlib.Nat.{eq-or-lt-of-le, div-eq-of-lt, lt-of-lt-of-le}
+use Prim.Native.Nat.{ℕ, _^_, _≤_, _<_}
+use native.Mathlib.Nat.{lt-of-lt-of-le}
 use native.Mathlib.Omega.{arith}
-use borrow.Author.Tests.{leb-true, leb-false}
+use borrow.Author.Tests.{eqb-true, eq-eqb, leb-true, leb-false}
 use lib.Dec.{leb}
 use lib.Pow.{pow-pos, pow-mono}
 use Rattle.numbers.specs.Below.{anyBelow}
 use Rattle.numbers.specs.Sets.{contains, setOf}
 use Rattle.numbers.proofs.Bools.{and-left, and-right, and-both, both-ways, either, never}
 use Rattle.numbers.proofs.Below.{any-is}
-use Rattle.numbers.proofs.Sets.{contains-above, contains-setOf, setOf-lt, is-setOf, shr-zero}
+use Rattle.numbers.proofs.Sets.{contains-above, contains-one, contains-setOf, setOf-lt, is-setOf}
 use Rattle.links.specs.Paths.{Link, joins, Path, here, along, leads}
 use Rattle.links.specs.Links.{linksFrom}
-use Rattle.links.specs.Walk.{Closed, Visited, ledTo, ledToFrom}
+use Rattle.links.specs.Walk.{Closed, Rows, Met, ledTo, ledToFrom}
 use Rattle.links.proofs.PathLaws.{leads-is}
 use Rattle.links.proofs.LinkLaws.{joins-number}
-use Rattle.links.proofs.WalkLaws.{closed-trans}
 
 -- both ends of every link name principals
 abbrev pub LowEnds : List Link → Type 0
@@ -47,14 +46,6 @@ contains-all f q g =
     (λ t. contains-setOf 64 f q (leb-false 64 q t))
     (either (leb 64 q))
 
--- while something is left of a set from p on, p is below 64
-pub some-left : (s p : ℕ) → s < 2 ^ 64 → 0 < s / 2 ^ p → p < 64
-some-left s p h g =
-    ⊎-elim
-    (λ t. let z : s / 2 ^ p ≡ 0 = div-eq-of-lt (lt-of-lt-of-le h (pow-mono (leb-true 64 p t))) in absurd (omega arith))
-    (λ t. leb-false 64 p t)
-    (either (leb 64 p))
-
 module _ (ls : List Link) (low : LowEnds ls) where
   -- a path that goes anywhere goes between principals
   pub path-low : {p q : ℕ} → Path ls p q → (p ≡ q) ⊎ ((p < 64) × (q < 64))
@@ -67,95 +58,68 @@ module _ (ls : List Link) (low : LowEnds ls) where
   along-closed s f here e = e
   along-closed s f (along {p} q h w) e = along-closed s f w (f p q (none p) e h)
 
-  -- ---- from one principal
-
-  pub visited-is : (p r : ℕ) → r < 2 ^ 64 → Visited ls 0 p r → r ≡ ledTo ls p
-  unfolding ledTo
-  visited-is p r h w = is-setOf 64 r (leads ls p) h (λ q g. both-ways (contains r q) (leads ls p q) (there q) (back q g))
-    where
-      there : (q : ℕ) → contains r q ≡ true → leads ls p q ≡ true
-      there q e = ⊎-elim (λ x. absurd (never x (none q))) (λ x. leads-is ls p q .1 (x .1)) (w .sound q e)
-
-      back : (q : ℕ) → q < 64 → leads ls p q ≡ true → contains r q ≡ true
-      back q g e =
-          let path = leads-is ls p q .0 e in
-          let start : p < 64 = ⊎-elim (λ x. subst (λ (z : ℕ). z < 64) (sym x) g) (λ x. x .0) (path-low path) in
-          along-closed r (w .closed) path (w .there start)
-
-  -- nobody is led to a number of 64 or more but from itself
-  none-far : (p q : ℕ) → 64 ≤ q → (p ≡ q → ⊥) → leads ls p q ≡ false
-  none-far p q h other =
-      ⊎-elim
-      (λ e. ⊎-elim (λ x. absurd (other x)) (λ x. absurd (omega (arith, x .1))) (path-low (leads-is ls p q .0 e)))
-      (λ e. e)
-      (either (leads ls p q))
+  -- nobody is led to another but from one principal to another
+  none-far : (p q : ℕ) → ((p < 64) × (q < 64) → ⊥) → (p ≡ q → ⊥) → leads ls p q ≡ false
+  none-far p q high other =
+      ⊎-elim (λ e. absurd (⊎-elim other high (path-low (leads-is ls p q .0 e)))) (λ e. e) (either (leads ls p q))
 
   -- whether q is led to from another principal p
   pub contains-ledTo : (p q : ℕ) → (p ≡ q → ⊥) → contains (ledTo ls p) q ≡ leads ls p q
   unfolding ledTo
-  contains-ledTo p q other = contains-all (leads ls p) q (λ h. none-far p q h other)
+  contains-ledTo p q other = contains-all (leads ls p) q (λ h. none-far p q (λ x. omega (arith, x .1)) other)
 
   -- ---- from a set of principals
 
-  -- seen is what is led to from those of starts below p
-  pub record Gathered (starts p seen : ℕ) : Type 0 where
-    pub fits : seen < 2 ^ 64
-    pub sound : (q : ℕ) → contains seen q ≡ true → (a : ℕ) × (contains starts a ≡ true) × Path ls a q
-    pub there : (a : ℕ) → a < p → contains starts a ≡ true → contains seen a ≡ true
-    pub closed : Closed ls 0 seen
+  -- what is seen after each of starts was visited
+  pub met-is : (rows : List ℕ) → Rows ls rows → (starts r : ℕ) → starts < 2 ^ 64 → r < 2 ^ 64 → Met rows starts 0 r → r ≡ ledToFrom ls starts
+  unfolding ledToFrom
+  met-is rows m starts r fits r-fits w =
+      is-setOf 64 r (λ q. anyBelow 64 (from q)) r-fits (λ q h. both-ways (contains r q) (anyBelow 64 (from q)) (out q) (into q))
+    where
+      from : ℕ → ℕ → Bool
+      from q a = contains starts a && leads ls a q
 
-  pub gathered-none : (starts : ℕ) → Gathered starts 0 0
-  gathered-none starts = record {
-    fits = pow-pos 64;
-    sound = λ q e. absurd (never e (none q));
-    there = λ a h e. absurd (omega arith);
-    closed = λ a b out e h. absurd (never e out);
-  }
+      out : (q : ℕ) → contains r q ≡ true → anyBelow 64 (from q) ≡ true
+      out q e =
+          ⊎-elim
+          (λ x. absurd (never x (none q)))
+          (λ x.
+          any-is 64 (from q) .1 (x .0, high-out starts (x .0) fits (x .1), and-both (contains starts (x .0)) (leads ls (x .0) q) (x .1) (leads-is ls (x .0) q .1 (x .2))))
+          (w .sound ls m q e)
 
-  module _ (starts p seen : ℕ) (g : Gathered starts p seen) where
-    pub gathered-past : contains starts p ≡ false → Gathered starts (p + 1) seen
-    gathered-past out = record {
-      fits = g .fits;
-      sound = g .sound;
-      there = λ a h e.
-          ⊎-elim (λ x. absurd (never (subst (λ (z : ℕ). contains starts z ≡ true) x e) out)) (λ x. g .there a x e)
-          (eq-or-lt-of-le (let o : a ≤ p = omega arith in o));
-      closed = g .closed;
-    }
+      into : (q : ℕ) → anyBelow 64 (from q) ≡ true → contains r q ≡ true
+      into q e =
+          let x = any-is 64 (from q) .0 e in
+          along-closed r (w .closed ls m) (leads-is ls (x .0) q .0 (and-right (contains starts (x .0)) (leads ls (x .0) q) (x .2)))
+          (w .there (x .0) (and-left (contains starts (x .0)) (leads ls (x .0) q) (x .2)))
 
-    pub gathered-visit : (r : ℕ) → r < 2 ^ 64 → p < 64 → contains starts p ≡ true → Visited ls seen p r → Gathered starts (p + 1) r
-    gathered-visit r h low-p start v = record {
-      fits = h;
-      sound = λ q e. ⊎-elim (g .sound q) (λ x. (p, start, x .1)) (v .sound q e);
-      there = λ a l e.
-          ⊎-elim (λ x. subst (λ (z : ℕ). contains r z ≡ true) (sym x) (v .there low-p)) (λ x. v .kept a (g .there a x e))
-          (eq-or-lt-of-le (let o : a ≤ p = omega arith in o));
-      closed = closed-trans ls 0 seen r (g .closed) (v .kept) (v .closed);
-    }
+  -- from one principal
+  pub ledTo-one : (p : ℕ) → p < 64 → ledToFrom ls (2 ^ p) ≡ ledTo ls p
+  unfolding ledTo ledToFrom
+  ledTo-one p h =
+      is-setOf 64 (setOf 64 some) (leads ls p) (setOf-lt 64 some)
+      (λ q l. contains-setOf 64 some q l ∙ both-ways (some q) (leads ls p q) (out q) (into q))
+    where
+      some : ℕ → Bool
+      some q = anyBelow 64 (λ a. contains (2 ^ p) a && leads ls a q)
 
-    pub gathered-is : starts < 2 ^ 64 → starts / 2 ^ p ≡ 0 → seen ≡ ledToFrom ls starts
-    unfolding ledToFrom
-    gathered-is fits done =
-        is-setOf 64 seen (λ q. anyBelow 64 (from q)) (g .fits) (λ q h. both-ways (contains seen q) (anyBelow 64 (from q)) (out q) (into q))
-      where
-        from : ℕ → ℕ → Bool
-        from q a = contains starts a && leads ls a q
+      out : (q : ℕ) → some q ≡ true → leads ls p q ≡ true
+      out q e =
+          let x = any-is 64 (λ a. contains (2 ^ p) a && leads ls a q) .0 e in
+          subst (λ (z : ℕ). leads ls z q ≡ true)
+          (eqb-true (x .0) p (sym (contains-one p (x .0)) ∙ and-left (contains (2 ^ p) (x .0)) (leads ls (x .0) q) (x .2)))
+          (and-right (contains (2 ^ p) (x .0)) (leads ls (x .0) q) (x .2))
 
-        out : (q : ℕ) → contains seen q ≡ true → anyBelow 64 (from q) ≡ true
-        out q e =
-            let w = g .sound q e in
-            any-is 64 (from q) .1 (w .0, high-out starts (w .0) fits (w .1), and-both (contains starts (w .0)) (leads ls (w .0) q) (w .1) (leads-is ls (w .0) q .1 (w .2)))
+      into : (q : ℕ) → leads ls p q ≡ true → some q ≡ true
+      into q e =
+          any-is 64 (λ a. contains (2 ^ p) a && leads ls a q) .1
+          (p, h, and-both (contains (2 ^ p) p) (leads ls p q) (contains-one p p ∙ eq-eqb p p refl) e)
 
-        into : (q : ℕ) → anyBelow 64 (from q) ≡ true → contains seen q ≡ true
-        into q e =
-            let w = any-is 64 (from q) .0 e in
-            let start : contains starts (w .0) ≡ true = and-left (contains starts (w .0)) (leads ls (w .0) q) (w .2) in
-            let below : w .0 < p =
-            ⊎-elim
-            (λ t. absurd (never start (contains-above starts (w .0) (lt-of-lt-of-le (shr-zero starts p done) (pow-mono (leb-true p (w .0) t))))))
-            (λ t. leb-false p (w .0) t)
-            (either (leb p (w .0))) in
-            along-closed seen (g .closed) (leads-is ls (w .0) q .0 (and-right (contains starts (w .0)) (leads ls (w .0) q) (w .2))) (g .there (w .0) below start)
+  -- and from what is none
+  pub ledTo-none : (p : ℕ) → 64 ≤ p → 0 ≡ ledTo ls p
+  unfolding ledTo
+  ledTo-none p h =
+      is-setOf 64 0 (leads ls p) (pow-pos 64) (λ q l. none q ∙ sym (none-far p q (λ x. omega (arith, x .0)) (λ e. omega (arith, e))))
 
   -- whether q is led to from some principal of a set
   pub contains-ledToFrom : (s q : ℕ) → contains (ledToFrom ls s) q ≡ anyBelow 64 (λ p. contains s p && leads ls p q)
@@ -167,6 +131,6 @@ module _ (ls : List Link) (low : LowEnds ls) where
           ⊎-elim
           (λ e.
           let w = any-is 64 (λ p. contains s p && leads ls p q) .0 e in
-          absurd (never (and-right (contains s (w .0)) (leads ls (w .0) q) (w .2)) (none-far (w .0) q h (λ x. omega (arith, w .1)))))
+          absurd (never (and-right (contains s (w .0)) (leads ls (w .0) q) (w .2)) (none-far (w .0) q (λ x. omega (arith, x .1)) (λ x. omega (arith, w .1)))))
           (λ e. e)
           (either (anyBelow 64 (λ p. contains s p && leads ls p q)))

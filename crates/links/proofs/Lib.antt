@@ -2,6 +2,7 @@ pub mod PathLaws
 pub mod CycleLaws
 pub mod LinkLaws
 pub mod WalkLaws
+pub mod Gathering
 pub mod LedTo
 pub mod AuthorityLaws
 pub mod Closing

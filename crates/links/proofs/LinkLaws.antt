@@ -32,7 +32,7 @@ names-test {base} {x} {p} {q} w =
     (and-both (ltb (x / 256) (base + 64)) (ltb (x % 256) 64) (lt-ltb (x / 256) (base + 64) (omega (arith, w .near, w .from-low)))
     (lt-ltb (x % 256) 64 (omega (arith, w .far, w .to-low))))
 
-test-names : (base x : ℕ) → isLinkOf base x ≡ true → Names base x (x / 256 - base) (x % 256)
+pub test-names : (base x : ℕ) → isLinkOf base x ≡ true → Names base x (x / 256 - base) (x % 256)
 test-names base x e =
     let low : base ≤ x / 256 = leb-true base (x / 256) (and-left (leb base (x / 256)) (ltb (x / 256) (base + 64) && ltb (x % 256) 64) e) in
     let rest : (ltb (x / 256) (base + 64) && ltb (x % 256) 64) ≡ true = and-right (leb base (x / 256)) (ltb (x / 256) (base + 64) && ltb (x % 256) 64) e in
@@ -113,12 +113,12 @@ pub in-use : (l : List ℕ) (n : ℕ) (g : Graph) (base k : ℕ) → base ≡ ba
 in-use l n g base k e f = ap₂ linksFrom e (ap (λ (j : ℕ). take j l) f ∙ take-used l n)
 
 -- a base that is one 32-bit number leaves room for a principal
-room : (g : Graph) → baseOf g < 2 ^ 32 → baseOf g + 64 ≤ 4294967296
+room : (g : Graph) → baseOf g < 2 ^ 32 → baseOf g + 64 < 4294967296
 room Principals h = omega arith
 room (OfTag t) h = omega arith
 
-pub base-room : (g : Graph) (base : ℕ) → base ≡ baseOf g → base < 2 ^ 32 → base + 64 ≤ 4294967296
-base-room g base e h = subst (λ (b : ℕ). b + 64 ≤ 4294967296) (sym e) (room g (subst (λ (b : ℕ). b < 2 ^ 32) e h))
+pub base-room : (g : Graph) (base : ℕ) → base ≡ baseOf g → base < 2 ^ 32 → base + 64 < 4294967296
+base-room g base e h = subst (λ (b : ℕ). b + 64 < 4294967296) (sym e) (room g (subst (λ (b : ℕ). b < 2 ^ 32) e h))
 
 -- ---- a search, place by place
 

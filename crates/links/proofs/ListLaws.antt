@@ -91,11 +91,11 @@ module _ (l : List ℕ) (n i : ℕ) (g : Graph) (h : i < n) (fits : n ≤ length
 
 -- ---- the same, link by link
 
-one-link : (base x : ℕ) → isLinkOf base x ≡ true → linksFrom base (x ∷ []) ≡ said base x ∷ []
+pub one-link : (base x : ℕ) → isLinkOf base x ≡ true → linksFrom base (x ∷ []) ≡ said base x ∷ []
 unfolding linksFrom
 one-link base x e = linksFrom-in base x [] e
 
-no-link : (base x : ℕ) → isLinkOf base x ≡ false → linksFrom base (x ∷ []) ≡ []
+pub no-link : (base x : ℕ) → isLinkOf base x ≡ false → linksFrom base (x ∷ []) ≡ []
 unfolding linksFrom
 no-link base x e = linksFrom-out base x [] e
 

@@ -150,19 +150,22 @@ contains-add x t h n =
 pub shr-zero : (x k : ℕ) → x / 2 ^ k ≡ 0 → x < 2 ^ k
 shr-zero x k e = subst (λ (y : ℕ). x < y) (one-mul (2 ^ k)) (div-lt-iff-lt-mul (pow-pos k) .0 (subst (λ (y : ℕ). y < 1) (sym e) (lit< tt)))
 
+-- `x & !y`
+pub contains-less : (x y : ℕ) → x < 2 ^ 64 → y < 2 ^ 64 → (n : ℕ) → contains (bitAnd x ((2 ^ 64 - 1) - y)) n ≡ (contains x n && not (contains y n))
+contains-less x y x-fits y-fits n =
+    contains-and x ((2 ^ 64 - 1) - y) n
+    ∙ ⊎-elim
+    (λ g.
+    let out : contains x n ≡ false = contains-above x n (lt-of-lt-of-le x-fits (pow-mono (leb-true 64 n g))) in
+    ap (λ (b : Bool). b && contains ((2 ^ 64 - 1) - y) n) out ∙ sym (ap (λ (b : Bool). b && not (contains y n)) out))
+    (λ g. ap (λ (b : Bool). contains x n && b) (contains-not 64 y n y-fits (leb-false 64 n g)))
+    (either (leb 64 n))
+
 -- `x & !(1 << t)`
 pub contains-take : (x t : ℕ) → x < 2 ^ 64 → t < 64 → (n : ℕ) → contains (bitAnd x ((2 ^ 64 - 1) - (1 * 2 ^ t) % 2 ^ 64)) n ≡ (contains x n && not (eqb n t))
 contains-take x t fits h n =
-    ⊎-elim
-    (λ g.
-    let high : 64 ≤ n = leb-true 64 n g in
-    contains-and x ((2 ^ 64 - 1) - (1 * 2 ^ t) % 2 ^ 64) n
-    ∙ ap (λ (b : Bool). b && contains ((2 ^ 64 - 1) - (1 * 2 ^ t) % 2 ^ 64) n) (contains-above x n (lt-of-lt-of-le fits (pow-mono high)))
-    ∙ sym (ap (λ (b : Bool). b && not (eqb n t)) (contains-above x n (lt-of-lt-of-le fits (pow-mono high)))))
-    (λ g.
-    ap (λ (w : ℕ). contains (bitAnd x ((2 ^ 64 - 1) - w)) n) (one-shl t h) ∙ contains-and x ((2 ^ 64 - 1) - 2 ^ t) n
-    ∙ ap (λ (b : Bool). contains x n && b) (contains-not 64 (2 ^ t) n (pow-lt h) (leb-false 64 n g) ∙ ap not (contains-one t n)))
-    (either (leb 64 n))
+    ap (λ (w : ℕ). contains (bitAnd x ((2 ^ 64 - 1) - w)) n) (one-shl t h) ∙ contains-less x (2 ^ t) fits (pow-lt h) n
+    ∙ ap (λ (b : Bool). contains x n && not b) (contains-one t n)
 
 -- ---- a member of a set that is not empty
 
