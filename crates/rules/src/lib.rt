@@ -16,15 +16,13 @@ use numbers::LINKS;
 use row_rules::objects::objects_hold;
 use row_rules::tags::tags_hold;
 use row_rules::threads::threads_hold;
+use store::STORE;
 use store::zero_numbers;
 use store_rules::store_holds;
 use tables::Tables;
 use tables::rows::ObjectRow;
 use tables::rows::TagRow;
 use tables::rows::ThreadRow;
-
-// 64 objects, 8 places each, 33 bytes a place.
-const STORE: usize = 16896;
 
 // Both lists of links, their unused places, and "under 2 principals".
 fn lists_hold<'a>(

@@ -21,7 +21,7 @@ storeSize = 16896
 
 -- where place k of object o begins
 abbrev pub placeAt : ℕ → ℕ → ℕ
-placeAt o k = o * 264 + k * 33
+placeAt o k = o * objectSize + k * placeSize
 
 abbrev pub byteAt : List ℕ → ℕ → ℕ
 byteAt s i = getD s i 0

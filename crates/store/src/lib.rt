@@ -4,14 +4,39 @@
 ghost use mathlib.Core.Path.{_≡_};
 ghost use Prim.Native.Nat.{_+_, _≤_};
 ghost use lib.ListN.{length};
-ghost use Rattle.store.specs.Store.{zeros, cleared, put, tookFirst};
+ghost use Rattle.store.specs.Store.{objectSize, placeAt, byteAt, messageAt, zeros, cleared, put, tookFirst};
 use numbers::MESSAGE;
+use numbers::Object;
 
 // A length byte, and room for the longest message.
 pub const PLACE: usize = 33;
 
+// 8 places.
+pub const OBJECT: usize = 264;
+
+// 64 objects.
+pub const STORE: usize = 16896;
+
 // The bytes of the 7 places after an object's first.
 const AFTER_FIRST: usize = 231;
+
+// Where place k of an object begins.
+pub fn place_at(o: Object, k: usize) -> usize
+    requires { ⌜ k ≤ 8 ⌝ }
+    ensures { λ r. ⌜ r ≡ placeAt (o .0) k ⌝ }
+{
+    o.0 as usize * OBJECT + k * PLACE
+}
+
+// The message at the place that begins at `at`: a part of the store.
+pub fn message(store: &[u8], at: usize) -> &[u8]
+    requires { ⌜ (at + 33 ≤ length (now store)) × (byteAt (now store) at ≤ 32) ⌝ }
+    ensures { λ r. ⌜ now r ≡ messageAt (now (store .entry)) at ⌝ }
+{
+    let from = at + 1;
+    let n = store[at] as usize;
+    &store[from..from + n]
+}
 
 // The n bytes from there on are zero.
 pub fn zeros(s: &[u8], from: usize, n: usize) -> bool
@@ -92,4 +117,12 @@ pub fn take_first(store: &mut [u8], at: usize)
     }
     let last = at + AFTER_FIRST;
     clear(store, last, PLACE);
+}
+
+// The object whose places begin at `at` is freed: all its bytes become zero.
+pub fn free(store: &mut [u8], at: usize)
+    requires { ⌜ at + 264 ≤ length (now store) ⌝ }
+    ensures { λ _. ⌜ now (store .exit) ≡ cleared (now (store .entry)) at objectSize ⌝ }
+{
+    clear(store, at, OBJECT);
 }

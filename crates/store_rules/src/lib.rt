@@ -7,6 +7,7 @@ ghost use Rattle.tables.specs.Things.{objectAt};
 ghost use Rattle.store_rules.specs.StoreRules.{placesUsed, placeHolds, placesHold, objectHolds, storeHolds};
 use numbers::MESSAGE;
 use numbers::OBJECTS;
+use store::OBJECT;
 use store::PLACE;
 use store::zeros;
 use tables::rows::ObjectRow;
@@ -14,9 +15,6 @@ use tables::rows::What;
 
 // "A message is 0 to 32 bytes", as a length byte has it.
 const LONGEST: u8 = 32;
-
-// The bytes of an object's 8 places.
-const OBJECT: usize = 264;
 
 // How many of its 8 places an object uses.
 fn places_used(what: What) -> usize
