@@ -2,3 +2,4 @@ pub mod Sliding
 pub mod Front
 pub mod Asking
 pub mod MemoryLaws
+pub mod Cases
