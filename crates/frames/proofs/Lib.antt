@@ -1,1 +1,1 @@
-pub mod NeedLaws
+pub mod KindLaws

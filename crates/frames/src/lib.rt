@@ -2,6 +2,10 @@
 //
 // "Which of null, read, write or both a kind needs (12, 13, 1B test more) is one fixed table, looked
 // up by kind." What 12, 13 and 1B test more is not here.
+pub mod decode;
+pub mod form;
+pub mod requests;
+
 ghost use mathlib.Core.Path.{_≡_};
 ghost use Rattle.frames.specs.Needs.{needOf};
 use numbers::Need;

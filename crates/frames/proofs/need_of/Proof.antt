@@ -5,7 +5,7 @@ use borrow.Author.Needs.{needs}
 use Rattle.numbers.specs.declared.flow.Need.the-variants.{None}
 use Rattle.numbers.proofs.Table.{entry}
 use Rattle.frames.specs.Needs.{needOf}
-use Rattle.frames.proofs.NeedLaws.{unknown-needs-none}
+use Rattle.frames.proofs.KindLaws.{unknown-needs-none}
 use Rattle.frames.proofs.need_of.Statement.{statement}
 use Rattle.frames.proofs.need_of.Tie as tie
 

@@ -1,4 +1,4 @@
--- The kinds of 01's table end at 1B: a kind above it needs nothing. Assumes nothing.
+-- The kinds of 01's table end at 1B: a kind above it needs nothing and has no length. Assumes nothing.
 use mathlib.Core.Path.{_≡_, refl, ap₂}
 use mathlib.Core.Bool.{Bool, true, false, _||_, _&&_}
 use mathlib.Core.List.{List, [], _∷_}
@@ -9,6 +9,7 @@ use lib.Dec.{ltb}
 use Rattle.numbers.specs.declared.flow.Need.the-variants.{None}
 use Rattle.numbers.proofs.Bools.{and-left, and-right}
 use Rattle.frames.specs.Needs.{oneOf, needOf}
+use Rattle.frames.specs.Requests.{fixedLength, lengthByte}
 
 -- every one of ks is below n
 abbrev allUnder : ℕ → List ℕ → Bool
@@ -25,3 +26,12 @@ pub unknown-needs-none : (k : ℕ) → 0x1C ≤ k → needOf k ≡ None
 unfolding needOf
 unknown-needs-none k h =
     rw (none-of _ 0x1C k refl h, none-of _ 0x1C k refl h, none-of _ 0x1C k refl h, none-of _ 0x1C k refl h)
+
+pub unknown-has-no-length : (k : ℕ) → 0x1C ≤ k → fixedLength k ≡ 0
+unfolding fixedLength
+unknown-has-no-length k h =
+    rw (none-of _ 0x1C k refl h, none-of _ 0x1C k refl h, none-of _ 0x1C k refl h, none-of _ 0x1C k refl h, none-of _ 0x1C k refl h)
+
+pub unknown-has-no-message : (k : ℕ) → 0x1C ≤ k → lengthByte k ≡ 0
+unfolding lengthByte
+unknown-has-no-message k h = rw (none-of _ 0x1C k refl h, none-of _ 0x1C k refl h)

@@ -1,0 +1,26 @@
+-- `frames::decode::label_at` meets its contract. Assumes nothing.
+use borrow.Author.Needs.{needs}
+use Rattle.frames.proofs.decode.label_at.Statement.{statement}
+use Rattle.frames.proofs.decode.label_at.Tie as tie
+
+pub label-at-spec : {M : Type 1} → statement M
+label-at-spec =
+    tie.close
+    (tie.spec
+    (λ c κs. search needs)
+    (λ c. search needs)
+    (λ c κs. search needs)
+    (λ c. search needs)
+    (λ c κs. search needs)
+    (λ c. search needs)
+    (λ c κs. search needs)
+    (λ c. search needs)
+    (λ c κs. search needs)
+    (λ c. search needs)
+    (λ c κs. search needs)
+    (λ c. search needs)
+    (λ c κs. search needs)
+    (λ c. search needs)
+    (λ c κs. search needs)
+    (λ c κs. search needs)
+    (λ c. cc))
