@@ -5,7 +5,7 @@ use Prim.Native.Nat.{ℕ}
 use lib.ListN.{replicate}
 use Rattle.links.specs.Links.{findFrom}
 use Rattle.memory.specs.declared.Memory.{Memory}
-use Rattle.memory.specs.Remembered.{pairOf, heldPairs, without, remembered, answered}
+use Rattle.memory.specs.Remembered.{pairOf, without, remembered, answered}
 
 -- a memory of this size that nothing was asked of
 fresh : ℕ → Memory

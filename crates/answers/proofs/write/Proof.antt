@@ -1,12 +1,12 @@
 -- `answers::write` meets its contract: a case of the answer an arm. Assumes nothing.
 use mathlib.Core.Path.{_≡_, refl, sym, ap, subst, _∙_}
-use mathlib.Core.List.{List, [], _∷_, _++_}
+use mathlib.Core.List.{List, [], _∷_}
 use Prim.Native.Nat.{ℕ, _+_, _-_, _≤_}
 use native.Mathlib.Nat.{add-sub-cancel-left}
 use native.Mathlib.Omega.{arith}
 use borrow.Author.Needs.{needs}
-use lib.ListN.{length, take, drop, set, length-set, length-take, length-drop}
-use Rattle.store.specs.Store.{byteAt, part, messageAt}
+use lib.ListN.{length, set, length-set, length-take, length-drop}
+use Rattle.store.specs.Store.{byteAt, part}
 use Rattle.answers.specs.declared.Answer.{Answer}
 use Rattle.answers.specs.Answers.{Ready, answerBytes, front, saidMessage}
 use Rattle.answers.proofs.write.Statement.{statement}

@@ -1,10 +1,9 @@
 -- `frames::form::message_length` meets its contract. Assumes nothing.
 use mathlib.Core.Path.{refl, sym, ap, _∙_}
-use Prim.Native.Nat.{ℕ}
 use borrow.Author.Needs.{needs}
 use borrow.Author.Tests.{eq-eqb, ne-eqb}
 use Rattle.numbers.proofs.Chain.{skip, hit}
-use Rattle.frames.specs.Requests.{byteAt, kindOf, lengthByte}
+use Rattle.frames.specs.Requests.{byteAt, lengthByte}
 use Rattle.frames.proofs.form.message_length.Statement.{statement}
 use Rattle.frames.proofs.form.message_length.Tie as tie
 

@@ -1,5 +1,4 @@
 -- `frames::form::well_formed` meets its contract. Assumes nothing.
-use native.Mathlib.Omega.{arith}
 use borrow.Author.Needs.{needs}
 use Rattle.frames.specs.Requests.{wellFormed}
 use Rattle.frames.proofs.form.well_formed.Statement.{statement}
