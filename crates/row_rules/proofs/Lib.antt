@@ -1,1 +1,2 @@
 pub mod TagRows
+pub mod RuleLaws

@@ -116,6 +116,20 @@ whatInLimits Cell = true
 whatInLimits (Queue held) = leb held mostQueued
 whatInLimits (Lock locked) = true
 
+abbrev pub isFree : What → Bool
+isFree Free = true
+isFree Cell = false
+isFree (Queue held) = false
+isFree (Lock locked) = false
+
+-- "an unmade number"
+abbrev pub objectMade : ℕ → ObjectRow → Bool
+objectMade tags r = isFree (r .what) || labelsMade tags (r .labels)
+
+-- "nonzero unused place"
+abbrev pub objectUnused : ObjectRow → Bool
+objectUnused r = not (isFree (r .what)) || labelsEmpty (r .labels)
+
 module _ (tags : ℕ) where
   -- "an unmade number", "nonzero unused place"
   abbrev pub whatLabels : What → LabelPair → Bool

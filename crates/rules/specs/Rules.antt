@@ -1,58 +1,145 @@
--- The rules of 9 (01, "Refusal numbers") on whole tables: table by table, each by the
--- rules that speak of it (`LinkRules`, `RowRules`, `StoreRules`, `MemoryRules`). Assumes nothing.
-use mathlib.Core.Bool.{Bool, _&&_}
+-- The rules of 9 (01, "Refusal numbers"), one by one and in the order of 01's row, on tables t, the memory m, the lists l of principal
+-- links and g of tag links, and the store s of messages. Every field is one sentence of a rule. Assumes nothing.
+use mathlib.Core.Path.{_≡_}
+use mathlib.Core.Bool.{true}
 use mathlib.Core.List.{List}
-use Prim.Native.Nat.{ℕ, _-_, _/_, _%_}
-use lib.Dec.{eqb, leb}
+use Prim.Native.Nat.{ℕ, _+_, _*_, _≤_, _<_}
 use lib.ListN.{length, getD}
-use Rattle.numbers.specs.Below.{allBelow}
-use Rattle.numbers.specs.Numbers.{linkPlaces}
-use Rattle.links.specs.declared.lists.Graph.the-variants.{Principals}
+use Rattle.numbers.specs.Numbers.{public, mostPrincipals, mostTags, mostThreads, mostObjects, longestMessage, linkPlaces, mostRemembered}
+use Rattle.links.specs.declared.lists.Graph.the-variants.{Principals, OfTag}
 use Rattle.links.specs.Links.{linksIn}
-use Rattle.links.specs.Authority.{authoritative}
-use Rattle.link_rules.specs.LinkRules.{linksHold}
-use Rattle.store.specs.Store.{zeros, storeSize}
+use Rattle.links.specs.Cycles.{NoCycle}
+use Rattle.link_rules.specs.LinkRules.{toIn, made}
+use Rattle.store.specs.Store.{placeSize, objectSize, storeSize, byteAt}
 use Rattle.memory.specs.declared.Memory.{Memory}
-use Rattle.tables.specs.Things.{lineageOf}
+use Rattle.tables.specs.Things.{threadAt, tagAt, objectAt}
 use Rattle.tables.specs.declared.Tables.{Tables}
 use Rattle.tables.specs.declared.rows.ThreadRow.{ThreadRow}
 use Rattle.tables.specs.declared.rows.TagRow.{TagRow}
 use Rattle.tables.specs.declared.rows.ObjectRow.{ObjectRow}
-use Rattle.row_rules.specs.RowRules.{threadsHold, tagsHold, objectsHold}
-use Rattle.store_rules.specs.StoreRules.{storeHolds}
-use Rattle.memory_rules.specs.MemoryRules.{memoryHolds}
+use Rattle.row_rules.specs.RowRules.{threadInLimits, threadMade, threadUnused, supertagMade, rankHolds, isNoTag, whatInLimits, objectMade, objectUnused}
+use Rattle.store_rules.specs.StoreRules.{placesUsed}
+use Rattle.memory_rules.specs.MemoryRules.{pairMade}
+use Rattle.rules.specs.Tested.{pairTrue}
 
--- both lists of links, "under 2 principals", and "nonzero unused place" of the lists
-abbrev pub listsHold : List ℕ → ℕ → List ℕ → ℕ → ℕ → ℕ → Bool
-listsHold l n g k tags principals =
-    linksHold l n 1 principals
-    && (linksHold g k tags principals && (leb 2 principals && (zeros l n (linkPlaces - n) && zeros g k (linkPlaces - k))))
+module _ (t : Tables) (m : Memory) (l g s : List ℕ) where
+  -- the rows of a thread, a tag and an object; where place k of an object begins; a remembered pair
+  abbrev thread : ℕ → ThreadRow
+  thread n = threadAt (t .threads) n
 
--- the rows
-abbrev pub rowsHold : List TagRow → List ThreadRow → List ObjectRow → ℕ → ℕ → Bool
-rowsHold kinds threads objects tags principals =
-    tagsHold principals tags kinds && (threadsHold principals tags threads && objectsHold tags objects)
+  abbrev tag : ℕ → TagRow
+  tag i = tagAt (t .kinds) i
 
--- the store of messages: its length, and what stands in it
-abbrev pub messagesHold : List ℕ → List ObjectRow → Bool
-messagesHold s objects = eqb (length s) storeSize && storeHolds s objects
+  abbrev object : ℕ → ObjectRow
+  object o = objectAt (t .objects) o
 
--- the tables break no rule, but perhaps the truth of remembered pairs
-abbrev pub holdButTruth : Tables → Memory → List ℕ → List ℕ → List ℕ → Bool
-holdButTruth t m l g s =
-    listsHold l (t .links) g (t .grants) (t .tags) (t .principals)
-    && (rowsHold (t .kinds) (t .threads) (t .objects) (t .tags) (t .principals)
-    && (messagesHold s (t .objects) && memoryHolds m (t .tags) (t .principals)))
+  abbrev places : ℕ → ℕ
+  places o = placesUsed (object o .what)
 
--- the pair's principal is authoritative for its tag
-abbrev pub pairTrue : List TagRow → List ℕ → ℕ → List ℕ → ℕ → ℕ → Bool
-pairTrue kinds l n g k x =
-    authoritative (linksIn l n Principals) g k (lineageOf kinds (record { 0 = x % 256 })) (record { 0 = x / 256 % 256 })
+  abbrev place : ℕ → ℕ → ℕ
+  place o k = o * objectSize + k * placeSize
 
--- "a remembered pair .. untrue": none of those held is
-unfoldable pub pairsTrue : Tables → Memory → List ℕ → List ℕ → Bool
-pairsTrue t m l g = allBelow (m .held) (λ i. pairTrue (t .kinds) l (t .links) g (t .grants) (getD (m .pairs) i 0))
+  abbrev pair : ℕ → ℕ
+  pair i = getD (m .pairs) i 0
 
--- the tables break no rule
-abbrev pub breakNoRule : Tables → Memory → List ℕ → List ℕ → List ℕ → Bool
-breakNoRule t m l g s = holdButTruth t m l g s && pairsTrue t m l g
+  -- "a limit"
+  pub record WithinLimits : Type 0 where
+    pub principals : t .principals ≤ mostPrincipals
+    pub tags : t .tags ≤ mostTags
+    pub links : t .links ≤ linkPlaces
+    pub grants : t .grants ≤ linkPlaces
+    pub calls : (n : ℕ) → n < mostThreads → threadInLimits (thread n) ≡ true
+    pub queues : (o : ℕ) → o < mostObjects → whatInLimits (object o .what) ≡ true
+    pub messages : (o k : ℕ) → o < mostObjects → k < places o → byteAt s (place o k) ≤ longestMessage
+
+  -- "or a lent list of other than 256 places", and the store of messages likewise
+  pub record WholeLists : Type 0 where
+    pub links : length l ≡ linkPlaces
+    pub grants : length g ≡ linkPlaces
+    pub store : length s ≡ storeSize
+
+  -- "under 2 principals"
+  abbrev pub TwoPrincipals : Type 0
+  TwoPrincipals = 2 ≤ t .principals
+
+  -- "an unmade number": anywhere one stands
+  pub record AllMade : Type 0 where
+    pub links : (i : ℕ) → i < t .links → made l 1 (t .principals) i ≡ true
+    pub grants : (i : ℕ) → i < t .grants → made g (t .tags) (t .principals) i ≡ true
+    pub roots : (i : ℕ) → i < t .tags → tag i .root .0 < t .principals
+    pub supertags : (i : ℕ) → i < t .tags → supertagMade (t .tags) (tag i .rank) ≡ true
+    pub threads : (n : ℕ) → n < mostThreads → threadMade (t .principals) (t .tags) (thread n) ≡ true
+    pub objects : (o : ℕ) → o < mostObjects → objectMade (t .tags) (object o) ≡ true
+    pub pairs : (i : ℕ) → i < m .held → pairMade (t .tags) (t .principals) (pair i) ≡ true
+
+  -- "a cycle": of principal links, or of one tag's recorded links
+  pub record NoCycles : Type 0 where
+    pub links : NoCycle (linksIn l (t .links) Principals)
+    pub grants : (i : ℕ) → i < t .tags → NoCycle (linksIn g (t .grants) (OfTag (record { 0 = i })))
+
+  -- "a doubled link"
+  pub record NoneDoubled : Type 0 where
+    pub links : (i j : ℕ) → i < j → j < t .links → getD l i 0 ≡ getD l j 0 → ⊥
+    pub grants : (i j : ℕ) → i < j → j < t .grants → getD g i 0 ≡ getD g j 0 → ⊥
+
+  -- "a link to the public"
+  pub record NoneToPublic : Type 0 where
+    pub links : (i : ℕ) → i < t .links → toIn (getD l i 0) ≡ public → ⊥
+    pub grants : (i : ℕ) → i < t .grants → toIn (getD g i 0) ≡ public → ⊥
+
+  -- "a public root"
+  abbrev pub NoPublicRoot : Type 0
+  NoPublicRoot = (i : ℕ) → i < t .tags → tag i .root .0 ≡ public → ⊥
+
+  -- "a subtag of a subtag or of a later tag"
+  abbrev pub SubtagsOfSupertags : Type 0
+  SubtagsOfSupertags = (i : ℕ) → i < t .tags → rankHolds (t .kinds) i (tag i .rank) ≡ true
+
+  -- "nonzero unused place"
+  pub record UnusedZero : Type 0 where
+    pub links : (i : ℕ) → t .links ≤ i → i < linkPlaces → getD l i 0 ≡ 0
+    pub grants : (i : ℕ) → t .grants ≤ i → i < linkPlaces → getD g i 0 ≡ 0
+    pub tags : (i : ℕ) → t .tags ≤ i → i < mostTags → isNoTag (tag i) ≡ true
+    pub threads : (n : ℕ) → n < mostThreads → threadUnused (thread n) ≡ true
+    pub objects : (o : ℕ) → o < mostObjects → objectUnused (object o) ≡ true
+    -- what follows a message in its place, and the places that an object does not use
+    pub messages : (o k i : ℕ) → o < mostObjects → k < places o → byteAt s (place o k) ≤ i → i < longestMessage → byteAt s (place o k + 1 + i) ≡ 0
+    pub places : (o i : ℕ) → o < mostObjects → places o * placeSize ≤ i → i < objectSize → byteAt s (o * objectSize + i) ≡ 0
+    pub pairs : (i : ℕ) → m .held ≤ i → i < mostRemembered → pair i ≡ 0
+
+  -- "over 64 or over-size memory"
+  pub record MemoryInSize : Type 0 where
+    pub size : m .size ≤ mostRemembered
+    pub held : m .held ≤ m .size
+
+  -- "a remembered pair doubled"
+  abbrev pub NoPairDoubled : Type 0
+  NoPairDoubled = (i j : ℕ) → i < j → j < m .held → pair i ≡ pair j → ⊥
+
+  -- "or untrue": its principal is authoritative for its tag
+  abbrev pub NoPairUntrue : Type 0
+  NoPairUntrue = (i : ℕ) → i < m .held → pairTrue (t .kinds) l (t .links) g (t .grants) (pair i) ≡ true
+
+  -- "hits above questions"
+  abbrev pub HitsAmongQuestions : Type 0
+  HitsAmongQuestions = m .hits ≤ m .questions
+
+  -- all rules but the truth of remembered pairs, which the step behind the check of 9 does without
+  pub record OnlyTruthBroken : Type 0 where
+    pub limits : WithinLimits
+    pub whole : WholeLists
+    pub two : TwoPrincipals
+    pub made : AllMade
+    pub cycles : NoCycles
+    pub doubled : NoneDoubled
+    pub public-links : NoneToPublic
+    pub public-roots : NoPublicRoot
+    pub subtags : SubtagsOfSupertags
+    pub unused : UnusedZero
+    pub memory : MemoryInSize
+    pub pairs : NoPairDoubled
+    pub hits : HitsAmongQuestions
+
+  -- all rules
+  abbrev pub NoRuleBroken : Type 0
+  NoRuleBroken = OnlyTruthBroken × NoPairUntrue

@@ -6,7 +6,7 @@ ghost use mathlib.Core.Path.{_≡_};
 ghost use Prim.Native.Nat.{ℕ, _≤_, _<_};
 ghost use Rattle.tables.specs.Things.{objectAt};
 ghost use Rattle.store_rules.specs.StoreRules.{placesUsed};
-ghost use Rattle.rules.specs.Rules.{listsHold, rowsHold, messagesHold, holdButTruth, breakNoRule};
+ghost use Rattle.rules.specs.Tested.{listsHold, rowsHold, messagesHold, holdButTruth, breakNoRule};
 use crate::truth::pairs_true;
 use link_rules::principal_links_hold;
 use link_rules::tag_links_hold;

@@ -1,7 +1,7 @@
 // The truth of remembered pairs: each is one for which the walk answers yes.
 ghost use mathlib.Core.Path.{_≡_};
 ghost use Rattle.memory.specs.Remembered.{Fits};
-ghost use Rattle.rules.specs.Rules.{pairTrue, pairsTrue};
+ghost use Rattle.rules.specs.Tested.{pairTrue, pairsTrue};
 use links::authoritative;
 use memory::Memory;
 use numbers::Principal;

@@ -1,16 +1,15 @@
 -- What a store holds after a message is put or taken, or bytes are cleared. Assumes nothing.
 use mathlib.Core.Path.{_≡_, ap, _∙_}
-use mathlib.Core.Bool.{Bool, true}
+use mathlib.Core.Bool.{true}
 use mathlib.Core.List.{List, _++_, append-nil}
 use mathlib.Core.Logic.{_↔_, _⊎_, inl, inr, ⊎-elim}
 use Prim.Native.Nat.{ℕ, _+_, _*_, _-_, _≤_, _<_}
+use native.Mathlib.Nat.{zero-add}
 use native.Mathlib.Numerals.{add-one}
 use native.Mathlib.Omega.{arith}
-use borrow.Author.Tests.{eq-eqb, eqb-true}
-use lib.Dec.{eqb}
 use lib.ListN.{length, drop, replicate, length-append, length-replicate, getD-replicate, List·getD-append}
 use lib.Seq.{drop-length, take-append-seam, getD-append-add, getD-take, getD-drop}
-use Rattle.numbers.proofs.Below.{all-each, each-all}
+use Rattle.numbers.proofs.Says.{eqb-is, all-is}
 use Rattle.store.specs.Store.{byteAt, part, messageAt, placed, put, tookFirst, cleared, zeros}
 use Rattle.store.proofs.Over.{over-length, over-before, over-inside, over-after, part-length, part-over, part-same}
 
@@ -146,11 +145,22 @@ cleared-else s from n i h w =
 -- a part is zero exactly where each of its bytes is
 pub zeros-is : (s : List ℕ) (from n : ℕ) → (zeros s from n ≡ true) ↔ ((i : ℕ) → i < n → byteAt s (from + i) ≡ 0)
 unfolding zeros
-zeros-is s from n =
-    let z : ℕ → Bool = λ i. eqb (byteAt s (from + i)) 0 in (
-      λ e i l. eqb-true (byteAt s (from + i)) 0 (all-each n z e i l),
-      λ f. each-all n z (λ i l. eq-eqb (byteAt s (from + i)) 0 (f i l)),
-    )
+zeros-is s from n = all-is n (λ i. eqb-is (byteAt s (from + i)) 0)
+
+-- the same of the places `from` up to `to`, counted from `at`
+pub zeros-between : (s : List ℕ) (at from to : ℕ) → (zeros s (at + from) (to - from) ≡ true) ↔ ((i : ℕ) → from ≤ i → i < to → byteAt s (at + i) ≡ 0)
+zeros-between s at from to = (
+  λ e i h k.
+      let q : at + i ≡ at + from + (i - from) = omega arith in
+      ap (byteAt s) q ∙ zeros-is s (at + from) (to - from) .0 e (i - from) (omega arith),
+  λ f.
+      zeros-is s (at + from) (to - from) .1
+      (λ i h. let q : at + from + i ≡ at + (from + i) = omega arith in ap (byteAt s) q ∙ f (from + i) (omega arith) (omega arith)),
+)
+
+-- and counted from the first
+pub zeros-from : (s : List ℕ) (from to : ℕ) → (zeros s from (to - from) ≡ true) ↔ ((i : ℕ) → from ≤ i → i < to → byteAt s i ≡ 0)
+zeros-from s from to = simp zero-add at (zeros-between s 0 from to)
 
 -- what was cleared is zero
 pub zeros-cleared : (s : List ℕ) (from n : ℕ) → from + n ≤ length s → zeros (cleared s from n) from n ≡ true

@@ -4,7 +4,7 @@ use mathlib.Core.Bool.{true}
 use borrow.Author.Needs.{needs}
 use borrow.Author.Tests.{not-true, not-false}
 use Rattle.numbers.proofs.Chain.{and-stop, and-go, by-yes}
-use Rattle.rules.specs.Rules.{holdButTruth}
+use Rattle.rules.specs.Tested.{holdButTruth}
 use Rattle.rules.proofs.Gives.{memory-fits}
 use Rattle.rules.proofs.break_no_rule.Statement.{statement}
 use Rattle.rules.proofs.break_no_rule.Tie as tie

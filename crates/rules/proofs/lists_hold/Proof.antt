@@ -7,7 +7,7 @@ use borrow.Author.Tests.{not-true, not-false}
 use lib.Dec.{leb}
 use Rattle.numbers.proofs.Chain.{and-stop, and-go, by-yes}
 use Rattle.link_rules.specs.LinkRules.{linksHold}
-use Rattle.rules.proofs.Gives.{list-limits}
+use Rattle.link_rules.proofs.RuleLaws.{linksHold-is}
 use Rattle.rules.proofs.lists_hold.Statement.{statement}
 use Rattle.rules.proofs.lists_hold.Tie as tie
 
@@ -26,15 +26,15 @@ lists-hold-spec =
     (λ c. and-stop _ (by-yes (c .before .principal-links-hold .ensures) (not-true (c .before .principal-links-hold .result) (c .if1 .taken))) refl)
     (λ c κs. search needs)
     (λ c. and-go (first (c .before .before)) (and-stop _ (by-yes (c .before .tag-links-hold .ensures) (not-true (c .before .tag-links-hold .result) (c .if2 .taken))) refl))
-    (λ c. let a = c .before .before .before .before .before .before .args in list-limits (a .links .now) (a .n) 1 (a .principals) (first (c .before .before)) .few)
+    (λ c. let a = c .before .before .before .before .before .before .args in linksHold-is (a .links .now) (a .n) 1 (a .principals) .0 (first (c .before .before)) .limits .few)
     (λ c κs.
     let a = c .before .before .before .before .before .before .args in
-    let w = list-limits (a .links .now) (a .n) 1 (a .principals) (first (c .before .before)) in
+    let w = linksHold-is (a .links .now) (a .n) 1 (a .principals) .0 (first (c .before .before)) .limits in
     omega (arith, w .whole, w .few))
-    (λ c. let a = c .before .before .before .before .before .before .before .args in list-limits (a .grants .now) (a .k) (a .tags) (a .principals) (second (c .before)) .few)
+    (λ c. let a = c .before .before .before .before .before .before .before .args in linksHold-is (a .grants .now) (a .k) (a .tags) (a .principals) .0 (second (c .before)) .limits .few)
     (λ c κs.
     let a = c .before .before .before .before .before .before .before .args in
-    let w = list-limits (a .grants .now) (a .k) (a .tags) (a .principals) (second (c .before)) in
+    let w = linksHold-is (a .grants .now) (a .k) (a .tags) (a .principals) .0 (second (c .before)) .limits in
     omega (arith, w .whole, w .few))
     (λ c.
     let a = c .before .before .before .before .before .before .before .before .args in

@@ -7,7 +7,7 @@ use borrow.Author.Tests.{not-true, not-false}
 use lib.ListN.{length}
 use Rattle.numbers.proofs.Chain.{and-stop, and-go, by-yes}
 use Rattle.link_rules.specs.LinkRules.{inLimits, allMade}
-use Rattle.link_rules.proofs.RuleLaws.{Limits, limits-say, made-placed}
+use Rattle.link_rules.proofs.RuleLaws.{Limits, limits-is, made-placed}
 use Rattle.link_rules.proofs.rules.hold.Statement.{statement}
 use Rattle.link_rules.proofs.rules.hold.Tie as tie
 
@@ -16,7 +16,7 @@ in-limits : (c : tie.Else1) → inLimits (length (c .before .before .before .bef
 in-limits c = by-yes (c .before .in-limits .ensures) (not-false (c .before .in-limits .result) (c .if1 .left))
 
 limits : (c : tie.Else1) → Limits (length (c .before .before .before .before .before .args .links .now)) (c .before .before .before .before .before .args .n) (c .before .before .before .before .before .args .tags) (c .before .before .before .before .before .args .principals)
-limits c = let a = c .before .before .before .before .before .args in limits-say (length (a .links .now)) (a .n) (a .tags) (a .principals) (in-limits c)
+limits c = let a = c .before .before .before .before .before .args in limits-is (length (a .links .now)) (a .n) (a .tags) (a .principals) .0 (in-limits c)
 
 -- past the second its numbers are made
 all-made : (c : tie.Else2) → allMade (c .before .before .before .before .before .before .before .args .links .now) (c .before .before .before .before .before .before .before .args .n) (c .before .before .before .before .before .before .before .args .tags) (c .before .before .before .before .before .before .before .args .principals) ≡ true

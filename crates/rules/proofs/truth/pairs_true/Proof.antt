@@ -9,7 +9,7 @@ use lib.ListN.{getD}
 use Rattle.numbers.specs.Below.{allBelow}
 use Rattle.numbers.proofs.Passes.{none-passed, one-passed, all-passed}
 use Rattle.tables.specs.declared.Tables.{Tables}
-use Rattle.rules.specs.Rules.{pairTrue, pairsTrue}
+use Rattle.rules.specs.Tested.{pairTrue, pairsTrue}
 use Rattle.rules.proofs.truth.pairs_true.Statement.{statement}
 use Rattle.rules.proofs.truth.pairs_true.Tie as tie
 
