@@ -13,7 +13,8 @@ use Rattle.tables.specs.declared.rows.TagRow.{TagRow}
 use Rattle.tables.specs.declared.rows.ObjectRow.{ObjectRow}
 use Rattle.tables.specs.declared.rows.What.{What}
 use Rattle.tables.specs.declared.rows.What.the-variants.{Free, Cell, Queue, Lock}
-use Rattle.row_rules.specs.RowRules.{labelsMade, labelsEmpty, threadInLimits, threadMade, threadUnused, threadHolds, threadsHold, supertagMade, rankHolds, isNoTag, tagHolds, tagsMade, tagsUnused, tagsHold, whatInLimits, isFree, objectMade, objectUnused, whatLabels, objectHolds, objectsHold}
+use Rattle.tables.specs.Free.{isFree}
+use Rattle.row_rules.specs.RowRules.{labelsMade, labelsEmpty, threadInLimits, threadMade, threadUnused, threadHolds, threadsHold, supertagMade, rankHolds, isNoTag, tagHolds, tagsMade, tagsUnused, tagsHold, whatInLimits, objectMade, objectUnused, whatLabels, objectHolds, objectsHold}
 
 -- ---- threads
 

@@ -10,6 +10,7 @@ use Rattle.numbers.specs.Labels.{namesOnlyMade, isEmpty}
 use Rattle.numbers.specs.declared.Principal.{Principal}
 use Rattle.numbers.specs.declared.flow.LabelPair.{LabelPair}
 use Rattle.tables.specs.Things.{nobody, threadAt, tagAt, objectAt}
+use Rattle.tables.specs.Free.{isFree}
 use Rattle.tables.specs.declared.rows.ThreadRow.{ThreadRow}
 use Rattle.tables.specs.declared.rows.TagRow.{TagRow}
 use Rattle.tables.specs.declared.rows.Rank.{Rank}
@@ -115,12 +116,6 @@ whatInLimits Free = true
 whatInLimits Cell = true
 whatInLimits (Queue held) = leb held mostQueued
 whatInLimits (Lock locked) = true
-
-abbrev pub isFree : What → Bool
-isFree Free = true
-isFree Cell = false
-isFree (Queue held) = false
-isFree (Lock locked) = false
 
 -- "an unmade number"
 abbrev pub objectMade : ℕ → ObjectRow → Bool

@@ -116,7 +116,7 @@ module _ (t : Tables) (m : Memory) (l g s : List ℕ) where
   abbrev pub NoPairDoubled : Type 0
   NoPairDoubled = (i j : ℕ) → i < j → j < m .held → pair i ≡ pair j → ⊥
 
-  -- "or untrue": its principal is authoritative for its tag
+  -- "or untrue": its principal is authoritative for its tag, both being made (`AllMade`)
   abbrev pub NoPairUntrue : Type 0
   NoPairUntrue = (i : ℕ) → i < m .held → pairTrue (t .kinds) l (t .links) g (t .grants) (pair i) ≡ true
 

@@ -20,7 +20,7 @@ mod lists;
 mod rows;
 
 ghost use mathlib.Core.Path.{_≡_};
-ghost use Rattle.rules.specs.Rules.{breakNoRule};
+ghost use Rattle.rules.specs.Tested.{breakNoRule};
 ghost use Rattle.rules_c.specs.Plain.{tablesOf, memoryOf};
 use crate::fields::number_at;
 use crate::fields::word_at;
