@@ -22,7 +22,7 @@ pub fn free_thread(rows: [ThreadRow; 16]) -> usize
     i
 }
 
-fn is_free(what: What) -> bool
+pub fn is_free(what: What) -> bool
     ensures { λ r. ⌜ r ≡ isFree what ⌝ }
 {
     match what {
