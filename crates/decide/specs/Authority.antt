@@ -1,0 +1,151 @@
+-- Kinds 01 to 09 (01, "Requests"): their rows' refusals in order, and what is done. s is what the request sees, l the list of
+-- principal links, g that of tag links, and yes the answer to the question of authority, where one was asked. Assumes nothing.
+use mathlib.Core.Bool.{Bool, true, false, not, cond, _||_}
+use mathlib.Core.List.{List}
+use Prim.Native.Nat.{ℕ, _*_}
+use lib.Dec.{eqb, leb}
+use lib.ListN.{take}
+use Rattle.numbers.specs.declared.Principal.{Principal}
+use Rattle.numbers.specs.declared.Tag.{Tag}
+use Rattle.numbers.specs.Numbers.{public, mostPrincipals, mostTags, linkPlaces}
+use Rattle.links.specs.declared.lists.Found.{Found}
+use Rattle.links.specs.declared.lists.Found.the-variants.{At, Nothing}
+use Rattle.links.specs.declared.lists.Graph.the-variants.{Principals, OfTag}
+use Rattle.links.specs.declared.authority.Rooted.{Rooted}
+use Rattle.links.specs.declared.authority.Lineage.{Lineage}
+use Rattle.links.specs.declared.authority.Lineage.the-variants as lineage
+use Rattle.links.specs.Paths.{Link}
+use Rattle.links.specs.Links.{linksIn, linkNumber, findIn}
+use Rattle.links.specs.Authority.{actsFor, countedNode, linksOf}
+use Rattle.links.specs.Cycles.{closesCycle}
+use Rattle.tables.specs.declared.rows.Rank.{Rank}
+use Rattle.tables.specs.declared.rows.Rank.the-variants.{Supertag, SubtagOf}
+use Rattle.frames.specs.declared.requests.AuthorityRequest.{AuthorityRequest}
+use Rattle.frames.specs.declared.requests.AuthorityRequest.the-variants.{NewPrincipal, Delegate, Revoke, ActsFor, NewTag, NewSubtag, Grant, Ungrant, Authoritative}
+use Rattle.answers.specs.declared.Answer.the-variants.{Value}
+use Rattle.answers.specs.declared.Refusal.the-variants.{Authority, Cycle, Full}
+use Rattle.sight.specs.declared.Sight.{Sight}
+use Rattle.decide.specs.declared.outcome.Outcome.{Outcome}
+use Rattle.decide.specs.declared.outcome.ListChange.the-variants as list
+use Rattle.decide.specs.declared.outcome.StoreChange.the-variants as store
+use Rattle.decide.specs.declared.outcome.RowChange.the-variants as rows
+use Rattle.decide.specs.Outcomes.{rowsChanged, refused, done, told, linksChanged, grantsChanged}
+
+abbrev pub isFound : Found → Bool
+isFound (At i) = true
+isFound Nothing = false
+
+abbrev pub isPublic : Principal → Bool
+isPublic p = eqb (p .0) public
+
+-- a tag and its maker, whatever its rank
+abbrev pub ownOf : Lineage → Rooted
+ownOf (lineage.Supertag t) = t
+ownOf (lineage.Subtag t above) = t
+
+-- "link removed", or none there: "done, no change"
+abbrev pub unlinked : Found → Outcome
+unlinked (At i) = linksChanged (list.Remove i)
+unlinked Nothing = done
+
+abbrev pub ungranted : Found → Outcome
+ungranted (At i) = grantsChanged (list.Remove i)
+ungranted Nothing = done
+
+module _ (s : Sight) where
+  -- "caller": who the thread runs as
+  abbrev pub caller : Principal
+  caller = s .caller .principal
+
+  module _ (l : List ℕ) where
+    -- "caller does not act for P"
+    abbrev pub callerActsFor : Principal → Bool
+    callerActsFor p = actsFor (linksIn l (s .links) Principals) caller p
+
+    abbrev pub placeOfLink : Principal → Principal → Found
+    placeOfLink p q = findIn (take (s .links) l) (linkNumber 0 p q)
+
+    -- 01: "caller public 5; 64 principals or 256 links 7"; "link new to caller; answers number"
+    unfoldable pub newPrincipal : Outcome
+    newPrincipal =
+        cond (isPublic caller) (refused Authority)
+        (cond (leb mostPrincipals (s .principals) || leb linkPlaces (s .links)) (refused Full)
+        (record {
+          answer = Value (s .principals);
+          links = list.Append (linkNumber 0 (record { 0 = s .principals }) caller);
+          grants = list.Keep;
+          store = store.Keep;
+          rows = rows.NewPrincipal;
+        }))
+
+    -- 02: "caller does not act for P, or Q public 5; link there: done, no change; P = Q or a path Q to P: 6; 256 links 7"
+    unfoldable pub delegate : Principal → Principal → Outcome
+    delegate p q =
+        cond (not (callerActsFor p)) (refused Authority)
+        (cond (isPublic q) (refused Authority)
+        (cond (isFound (placeOfLink p q)) done
+        (cond (closesCycle (linksIn l (s .links) Principals) p q) (refused Cycle)
+        (cond (leb linkPlaces (s .links)) (refused Full)
+        (linksChanged (list.Append (linkNumber 0 p q)))))))
+
+    -- 03: "caller does not act for P 5; no link: done, no change"
+    unfoldable pub revoke : Principal → Principal → Outcome
+    revoke p q = cond (not (callerActsFor p)) (refused Authority) (unlinked (placeOfLink p q))
+
+    -- 04: "01 if P acts for Q, else 00"
+    unfoldable pub tellsActsFor : Principal → Principal → Outcome
+    tellsActsFor p q = told (cond (actsFor (linksIn l (s .links) Principals) p q) 1 0)
+
+  -- 05: "caller public 5; 64 tags 7"
+  unfoldable pub newTag : Outcome
+  newTag =
+      cond (isPublic caller) (refused Authority)
+      (cond (leb mostTags (s .tags)) (refused Full)
+      (rowsChanged (Value (s .tags)) (rows.NewTag (record { root = caller; rank = Supertag }))))
+
+  -- 06: "not authoritative 5; 64 tags 7"
+  unfoldable pub newSubtag : Tag → Bool → Outcome
+  newSubtag t yes =
+      cond (not yes) (refused Authority)
+      (cond (leb mostTags (s .tags)) (refused Full)
+      (rowsChanged (Value (s .tags)) (rows.NewTag (record { root = caller; rank = SubtagOf t }))))
+
+  module _ (l g : List ℕ) where
+    -- the links of T's own graph
+    abbrev pub ownLinks : Tag → List Link
+    ownLinks t = linksIn g (s .grants) (OfTag t)
+
+    abbrev pub placeOfGrant : Tag → Principal → Principal → Found
+    placeOfGrant t p q = findIn (take (s .grants) g) (linkNumber (t .0 * 256) p q)
+
+    -- "P not a counted node of T's own graph"
+    abbrev pub counted : Principal → Bool
+    counted p = countedNode (linksOf g (s .grants) (ownOf (s .lineage))) (ownOf (s .lineage) .root) p
+
+    -- 07: "caller does not act for P, P not a counted node of T's own graph, or Q public 5; link there: done; P = Q or a recorded path
+    -- of T from Q to P: 6; 256 links 7"
+    unfoldable pub grant : Tag → Principal → Principal → Outcome
+    grant t p q =
+        cond (not (callerActsFor l p)) (refused Authority)
+        (cond (not (counted p)) (refused Authority)
+        (cond (isPublic q) (refused Authority)
+        (cond (isFound (placeOfGrant t p q)) done
+        (cond (closesCycle (ownLinks t) p q) (refused Cycle)
+        (cond (leb linkPlaces (s .grants)) (refused Full)
+        (grantsChanged (list.Append (linkNumber (t .0 * 256) p q))))))))
+
+    -- 08: "caller does not act for P 5; no link: done"
+    unfoldable pub ungrant : Tag → Principal → Principal → Outcome
+    ungrant t p q = cond (not (callerActsFor l p)) (refused Authority) (ungranted (placeOfGrant t p q))
+
+    abbrev pub decideAuthority : AuthorityRequest → Bool → Outcome
+    decideAuthority NewPrincipal yes = newPrincipal l
+    decideAuthority (Delegate p q) yes = delegate l p q
+    decideAuthority (Revoke p q) yes = revoke l p q
+    decideAuthority (ActsFor p q) yes = tellsActsFor l p q
+    decideAuthority NewTag yes = newTag
+    decideAuthority (NewSubtag t) yes = newSubtag t yes
+    decideAuthority (Grant t p q) yes = grant t p q
+    decideAuthority (Ungrant t p q) yes = ungrant t p q
+    -- 09: "01 or 00 for the caller"
+    decideAuthority (Authoritative t) yes = told (cond yes 1 0)

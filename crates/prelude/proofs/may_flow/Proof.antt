@@ -1,0 +1,13 @@
+-- `prelude::may_flow` meets its contract: the need is looked up, and the rest tested. Assumes nothing.
+use borrow.Author.Needs.{needs}
+use Rattle.prelude.proofs.may_flow.Statement.{statement}
+use Rattle.prelude.proofs.may_flow.Tie as tie
+
+pub may-flow-spec : {M : Type 1} → statement M
+may-flow-spec =
+    tie.close
+    (tie.spec
+    (λ c κs. search needs)
+    (λ c κs. search needs)
+    (λ c κs. search needs)
+    (λ c. cc))
