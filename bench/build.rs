@@ -1,23 +1,31 @@
-//! Links the proved functions: liblinks_c.a, which `rt staticlib links_c` writes
-//! into target/staticlib of the repository. The environment variable STATICLIB
-//! names another directory to take it from.
+//! Links the proved functions: the archives that `rt staticlib links_c` and
+//! `rt staticlib rules_c` write into target/staticlib of the repository. The
+//! environment variable STATICLIB names another directory to take them from.
 
 use std::env;
-use std::path::PathBuf;
+use std::path::{Path, PathBuf};
 use std::process::exit;
+
+const CRATES: [&str; 2] = ["links_c", "rules_c"];
 
 fn main() {
     println!("cargo:rerun-if-env-changed=STATICLIB");
     let directory = directory();
-    let archive = directory.join("liblinks_c.a");
+    println!("cargo:rustc-link-search=native={}", directory.display());
+    for name in CRATES {
+        link(&directory, name);
+    }
+}
+
+fn link(directory: &Path, name: &str) {
+    let archive = directory.join(format!("lib{}.a", name));
     println!("cargo:rerun-if-changed={}", archive.display());
     if !archive.is_file() {
         eprintln!("bench: there is no {}", archive.display());
-        eprintln!("bench: run `rt staticlib links_c` in the repository first");
+        eprintln!("bench: run `rt staticlib {}` in the repository first", name);
         exit(1);
     }
-    println!("cargo:rustc-link-search=native={}", directory.display());
-    println!("cargo:rustc-link-lib=static=links_c");
+    println!("cargo:rustc-link-lib=static={}", name);
 }
 
 fn directory() -> PathBuf {

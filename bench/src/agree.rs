@@ -3,44 +3,34 @@
 //! printed with all that is needed to run it again. A long run must also have seen
 //! both answers to every question, and each rule of 9 broken alone.
 
-use crate::graphs::{parts, tables, Random};
-use crate::plain::PLAIN;
-use crate::proved::PROVED;
-use crate::questions::{List, Question, Rooted, Tables};
+use crate::cases::{Run, Tally};
+use crate::graphs::{parts, tables};
+use crate::plain::PlainRust;
+use crate::proved::Proved;
+use crate::questions::{answer, List, Question, Rooted, Tables};
+use crate::random::Random;
 use crate::reference;
-use second::places::used;
 use std::collections::BTreeMap;
 use std::io::{self, Write};
 
 /// How often each question on single principals is put to the same tables.
 const ROUNDS: usize = 3;
-/// A run of so many cases must have seen everything.
-const LONG_RUN: u64 = 1000;
 /// The rules on a whole list.
 const RULES: usize = 8;
 
-/// Runs so many cases. Whether all agreed, and a long run saw everything.
-pub fn agree(cases: u64, seed: u64, output: &mut impl Write) -> io::Result<bool> {
-    let mut tally = Tally::default();
-    let mut case_seed = seed;
-    for case in 0..cases {
-        let mut random = Random::new(case_seed);
-        let next_seed = random.draw();
-        let tables = tables(&mut random);
-        for question in questions(&mut random, &tables) {
+/// Whether all agree, and a long run saw everything.
+pub fn agree(run: &Run, output: &mut dyn Write) -> io::Result<bool> {
+    run.compare(output, |random, seen: &mut Seen| {
+        let tables = tables(random);
+        for question in questions(random, &tables) {
             let answers = Answers::to(&tables, question);
             if !answers.agree() {
-                writeln!(output, "a difference in case {} from seed {}", case, seed)?;
-                writeln!(output, "to run it alone: bench agree 1 {}", case_seed)?;
-                writeln!(output, "{:?}\n{:?}\n{:?}", question, answers, tables)?;
-                return Ok(false);
+                return Err(format!("{:?}\n{:?}\n{:?}", question, answers, tables));
             }
-            tally.add(&tables, question, answers.proved);
+            seen.add(&tables, question, answers.proved);
         }
-        case_seed = next_seed;
-    }
-    tally.print(cases, seed, output)?;
-    Ok(cases < LONG_RUN || tally.saw_everything(output)?)
+        Ok(())
+    })
 }
 
 #[derive(Debug)]
@@ -53,8 +43,8 @@ struct Answers {
 impl Answers {
     fn to(tables: &Tables, question: Question) -> Answers {
         Answers {
-            proved: PROVED.answer(tables, question),
-            plain: PLAIN.answer(tables, question),
+            proved: answer(&Proved, tables, question),
+            plain: answer(&PlainRust, tables, question),
             reference: reference::answer(tables, question),
         }
     }
@@ -114,30 +104,31 @@ fn supertag(random: &mut Random, tables: &Tables, own: Rooted) -> Rooted {
 
 /// The parts of any number that is in use.
 fn any_link(random: &mut Random, list: &List) -> Option<(u32, u32, u32)> {
-    let used = used(&list.places, list.count);
+    let used = list.lent().used();
     (!used.is_empty()).then(|| parts(random.pick(used)))
 }
 
 /// How often each question was answered no and yes, and each rule was broken alone.
 #[derive(Default)]
-struct Tally {
+struct Seen {
     answers: BTreeMap<&'static str, [u64; 2]>,
     alone: BTreeMap<&'static str, u64>,
 }
 
-impl Tally {
-    fn add(&mut self, tables: &Tables, question: Question, answer: bool) {
-        self.answers.entry(question.name()).or_default()[usize::from(answer)] += 1;
+impl Seen {
+    fn add(&mut self, tables: &Tables, question: Question, yes: bool) {
+        self.answers.entry(question.name()).or_default()[usize::from(yes)] += 1;
         if let [rule] = reference::broken(tables, question)[..] {
             *self.alone.entry(rule).or_default() += 1;
         }
     }
+}
 
-    fn print(&self, cases: u64, seed: u64, output: &mut impl Write) -> io::Result<()> {
+impl Tally for Seen {
+    fn print(&self, output: &mut dyn Write) -> io::Result<()> {
         let asked: u64 = self.answers.values().flatten().sum();
-        write!(output, "{} cases from seed {}, ", cases, seed)?;
-        writeln!(output, "{} questions: all agree", asked)?;
-        writeln!(output, "\n{:30} {:>8} {:>8}", "question", "yes", "no")?;
+        writeln!(output, "{} questions\n", asked)?;
+        writeln!(output, "{:30} {:>8} {:>8}", "question", "yes", "no")?;
         for (name, [no, yes]) in &self.answers {
             writeln!(output, "{:30} {:8} {:8}", name, yes, no)?;
         }
@@ -148,15 +139,14 @@ impl Tally {
         Ok(())
     }
 
-    fn saw_everything(&self, output: &mut impl Write) -> io::Result<bool> {
-        let both = self.answers.values().flatten().all(|times| *times > 0);
-        let each = self.alone.len() == RULES;
-        if !both {
-            writeln!(output, "\na question was never answered yes, or never no")?;
+    fn missed(&self) -> Vec<String> {
+        let mut missed = Vec::new();
+        if self.answers.values().flatten().any(|times| *times == 0) {
+            missed.push("a question was never answered yes, or never no".to_string());
         }
-        if !each {
-            writeln!(output, "\na rule was never the only one broken")?;
+        if self.alone.len() < RULES {
+            missed.push("a rule was never the only one broken".to_string());
         }
-        Ok(both && each)
+        missed
     }
 }

@@ -1,24 +1,36 @@
-//! The commands: whether the proved link functions answer as plain Rust and the
-//! second program do, and how fast they are beside plain Rust.
+//! The commands: whether the proved functions answer as plain Rust and the second
+//! program do, and how fast they are beside plain Rust.
 
 mod agree;
+mod breaks;
+mod cases;
+mod flips;
+mod form;
 mod graphs;
+mod list_damage;
 mod plain;
 mod proved;
 mod questions;
+mod random;
 mod reference;
+mod rules;
+mod sound;
 mod time;
 
+use cases::Run;
 use second::command::{clock, number, run, wrong, Failure};
 use std::io::{self, Write};
 use std::process::ExitCode;
 
 const HELP: &str = "\
-bench: the proved link functions beside plain Rust and the second program
+bench: the proved functions beside plain Rust and the second program
 
-bench agree N [SEED]   put the same questions on N seeded tables to the proved
-                       functions, to plain Rust and to the reference, and print
-                       the first difference
+bench agree N [SEED]   put the same questions on N seeded tables of links to the
+                       proved functions, to plain Rust and to the reference, and
+                       print the first difference
+bench rules N [SEED]   have N seeded whole tables judged by the rules of refusal 9,
+                       by the proved function, by plain Rust and by the second
+                       program, and print the first difference
 bench time             measure the proved functions and plain Rust, and print a
                        table of nanoseconds, ratios and goals
 bench --help           print this
@@ -34,9 +46,8 @@ fn main() -> ExitCode {
 
 fn command(arguments: &[&str]) -> Result<(), Failure> {
     match arguments {
-        ["agree", cases] => agree(cases, clock()),
-        ["agree", cases, seed] => agree(cases, number(seed, "SEED")?),
-        ["agree", ..] => Err(wrong("agree wants: N [SEED]")),
+        ["agree", how_many @ ..] => compare("agree", agree::agree, how_many),
+        ["rules", how_many @ ..] => compare("rules", rules::rules, how_many),
         ["time"] => Ok(time::time(&mut io::stdout())?),
         ["time", ..] => Err(wrong("time takes no arguments")),
         ["--help"] | ["-h"] | ["help"] => Ok(io::stdout().write_all(HELP.as_bytes())?),
@@ -45,12 +56,27 @@ fn command(arguments: &[&str]) -> Result<(), Failure> {
     }
 }
 
-fn agree(cases: &str, seed: u64) -> Result<(), Failure> {
-    let cases = number(cases, "N")?;
+type Comparison = fn(&Run, &mut dyn Write) -> io::Result<bool>;
+
+fn compare(
+    command: &'static str,
+    comparison: Comparison,
+    how_many: &[&str],
+) -> Result<(), Failure> {
+    let (cases, seed) = match how_many {
+        [cases] => (number(cases, "N")?, clock()),
+        [cases, seed] => (number(cases, "N")?, number(seed, "SEED")?),
+        _ => return Err(wrong(format!("{} wants: N [SEED]", command))),
+    };
     if cases == 0 {
         return Err(wrong("N is at least 1"));
     }
-    if agree::agree(cases, seed, &mut io::stdout())? {
+    let run = Run {
+        command,
+        cases,
+        seed,
+    };
+    if comparison(&run, &mut io::stdout())? {
         Ok(())
     } else {
         Err(Failure::Difference)

@@ -1,109 +1,110 @@
-//! The proved functions, from the static library of the crate `links_c`.
-//! Nothing checks these declarations against its source, so they are kept few.
-//! Each function takes every value: no contract of them has a `requires`.
+//! The proved functions, from the static libraries of the crates `links_c` and
+//! `rules_c`. Nothing checks these declarations against their sources, so they are
+//! kept few. Each function takes every value: no contract of them has a `requires`.
 
-use crate::questions::{Functions, Lent, Rooted};
+use crate::form::PlainForm;
+use crate::questions::{Functions, Lent, Rooted, Tables};
 
+/// A lent list has a line of its own.
+#[rustfmt::skip]
 mod c {
     extern "C" {
-        pub fn links_acts_for(links: *const u32, places: usize, n: usize, p: u8, q: u8) -> bool;
+        pub fn links_acts_for(
+            links: *const u32, places: usize, n: usize,
+            p: u8, q: u8,
+        ) -> bool;
 
         pub fn links_closes_cycle(
-            links: *const u32,
-            places: usize,
-            n: usize,
-            tag: u8,
-            p: u8,
-            q: u8,
+            links: *const u32, places: usize, n: usize,
+            tag: u8, p: u8, q: u8,
         ) -> bool;
 
         pub fn links_authoritative(
-            links: *const u32,
-            places: usize,
-            n: usize,
-            tag_links: *const u32,
-            tag_places: usize,
-            m: usize,
-            tag: u8,
-            root: u8,
-            p: u8,
+            links: *const u32, places: usize, n: usize,
+            tag_links: *const u32, tag_places: usize, m: usize,
+            tag: u8, root: u8, p: u8,
         ) -> bool;
 
         pub fn links_authoritative_sub(
-            links: *const u32,
-            places: usize,
-            n: usize,
-            tag_links: *const u32,
-            tag_places: usize,
-            m: usize,
-            tag: u8,
-            root: u8,
-            supertag: u8,
-            super_root: u8,
-            p: u8,
+            links: *const u32, places: usize, n: usize,
+            tag_links: *const u32, tag_places: usize, m: usize,
+            tag: u8, root: u8, supertag: u8, super_root: u8, p: u8,
         ) -> bool;
 
         pub fn links_principal_links_hold(
-            links: *const u32,
-            places: usize,
-            n: usize,
+            links: *const u32, places: usize, n: usize,
             principals: u32,
         ) -> bool;
 
         pub fn links_tag_links_hold(
-            links: *const u32,
-            places: usize,
-            n: usize,
-            tags: u32,
-            principals: u32,
+            links: *const u32, places: usize, n: usize,
+            tags: u32, principals: u32,
+        ) -> bool;
+
+        pub fn rules_break_no_rule(
+            numbers: *const u64, numbers_len: usize,
+            links: *const u32, links_len: usize,
+            tag_links: *const u32, tag_links_len: usize,
+            store: *const u8, store_len: usize,
         ) -> bool;
     }
 }
 
-pub static PROVED: Functions = Functions {
-    acts_for,
-    closes_cycle,
-    authoritative,
-    authoritative_sub,
-    principal_links_hold,
-    tag_links_hold,
-};
+pub struct Proved;
 
 // Each call below is sound because a pointer and a length come from one slice, and
 // the function only reads within it.
+impl Functions for Proved {
+    fn acts_for(&self, links: Lent, p: u8, q: u8) -> bool {
+        let (at, places, n) = passed(links);
+        unsafe { c::links_acts_for(at, places, n, p, q) }
+    }
 
-fn acts_for(links: Lent, p: u8, q: u8) -> bool {
-    let (at, places, n) = passed(links);
-    unsafe { c::links_acts_for(at, places, n, p, q) }
-}
+    fn closes_cycle(&self, links: Lent, tag: u8, p: u8, q: u8) -> bool {
+        let (at, places, n) = passed(links);
+        unsafe { c::links_closes_cycle(at, places, n, tag, p, q) }
+    }
 
-fn closes_cycle(links: Lent, tag: u8, p: u8, q: u8) -> bool {
-    let (at, places, n) = passed(links);
-    unsafe { c::links_closes_cycle(at, places, n, tag, p, q) }
-}
+    fn authoritative(&self, tables: &Tables, own: Rooted, p: u8) -> bool {
+        let (at, places, n) = passed(tables.links.lent());
+        let (tag_at, tag_places, m) = passed(tables.tag_links.lent());
+        let Rooted { tag, root } = own;
+        unsafe { c::links_authoritative(at, places, n, tag_at, tag_places, m, tag, root, p) }
+    }
 
-fn authoritative(links: Lent, tag_links: Lent, own: Rooted, p: u8) -> bool {
-    let (at, places, n) = passed(links);
-    let (tag_at, tag_places, m) = passed(tag_links);
-    let Rooted { tag, root } = own;
-    unsafe { c::links_authoritative(at, places, n, tag_at, tag_places, m, tag, root, p) }
-}
+    fn authoritative_sub(&self, tables: &Tables, own: Rooted, above: Rooted, p: u8) -> bool {
+        let (at, places, n) = passed(tables.links.lent());
+        let (tag_at, tag_places, m) = passed(tables.tag_links.lent());
+        let (t, r, u, s) = (own.tag, own.root, above.tag, above.root);
+        unsafe { c::links_authoritative_sub(at, places, n, tag_at, tag_places, m, t, r, u, s, p) }
+    }
 
-fn authoritative_sub(links: Lent, tag_links: Lent, own: Rooted, above: Rooted, p: u8) -> bool {
-    let (at, places, n) = passed(links);
-    let (tag_at, tag_places, m) = passed(tag_links);
-    let (t, r, u, s) = (own.tag, own.root, above.tag, above.root);
-    unsafe { c::links_authoritative_sub(at, places, n, tag_at, tag_places, m, t, r, u, s, p) }
-}
+    fn principal_links_hold(&self, links: Lent, principals: u32) -> bool {
+        let (at, places, n) = passed(links);
+        unsafe { c::links_principal_links_hold(at, places, n, principals) }
+    }
 
-fn principal_links_hold(links: Lent, principals: u32) -> bool {
-    let (at, places, n) = passed(links);
-    unsafe { c::links_principal_links_hold(at, places, n, principals) }
-}
+    fn tag_links_hold(&self, tag_links: Lent, tags: u32, principals: u32) -> bool {
+        let (at, places, n) = passed(tag_links);
+        unsafe { c::links_tag_links_hold(at, places, n, tags, principals) }
+    }
 
-fn tag_links_hold(links: Lent, tags: u32, principals: u32) -> bool {
-    let (at, places, n) = passed(links);
-    unsafe { c::links_tag_links_hold(at, places, n, tags, principals) }
+    fn break_no_rule(&self, form: &PlainForm) -> bool {
+        let (numbers, links) = (&form.numbers, &form.links);
+        let (tag_links, store) = (&form.tag_links, &form.store);
+        unsafe {
+            c::rules_break_no_rule(
+                numbers.as_ptr(),
+                numbers.len(),
+                links.as_ptr(),
+                links.len(),
+                tag_links.as_ptr(),
+                tag_links.len(),
+                store.as_ptr(),
+                store.len(),
+            )
+        }
+    }
 }
 
 /// A list as it passes to C: a pointer, a length and the count.

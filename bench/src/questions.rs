@@ -1,7 +1,10 @@
-//! What is asked: the tables as they are lent, the questions on them, and the six
+//! What is asked: the tables as they are lent, the questions on them, and the
 //! functions that answer, of which there is a proved set and a plain one.
 //! A link is a number: P * 256 + Q for a principal link (P, Q), and
 //! (T * 256 + P) * 256 + Q for a link (T, P, Q) of a tag.
+
+use crate::form::PlainForm;
+use second::places::used;
 
 /// A lent list, a link a place. The count says how many places are in use, and may lie.
 #[derive(Clone, Debug)]
@@ -24,6 +27,13 @@ impl List {
 pub struct Lent<'a> {
     pub places: &'a [u32],
     pub count: usize,
+}
+
+impl<'a> Lent<'a> {
+    /// The places in use, as far as they exist.
+    pub fn used(self) -> &'a [u32] {
+        used(self.places, self.count)
+    }
 }
 
 #[derive(Clone, Debug)]
@@ -66,33 +76,34 @@ impl Question {
     }
 }
 
-/// The functions under comparison. Principal links stand before tag links.
-pub struct Functions {
-    pub acts_for: fn(Lent, u8, u8) -> bool,
-    pub closes_cycle: fn(Lent, u8, u8, u8) -> bool,
-    pub authoritative: fn(Lent, Lent, Rooted, u8) -> bool,
-    pub authoritative_sub: fn(Lent, Lent, Rooted, Rooted, u8) -> bool,
-    pub principal_links_hold: fn(Lent, u32) -> bool,
-    pub tag_links_hold: fn(Lent, u32, u32) -> bool,
+/// The functions under comparison.
+pub trait Functions {
+    fn acts_for(&self, links: Lent, p: u8, q: u8) -> bool;
+    fn closes_cycle(&self, links: Lent, tag: u8, p: u8, q: u8) -> bool;
+    fn authoritative(&self, tables: &Tables, own: Rooted, p: u8) -> bool;
+    /// For a subtag: `above` is its supertag.
+    fn authoritative_sub(&self, tables: &Tables, own: Rooted, above: Rooted, p: u8) -> bool;
+    fn principal_links_hold(&self, links: Lent, principals: u32) -> bool;
+    fn tag_links_hold(&self, tag_links: Lent, tags: u32, principals: u32) -> bool;
+    /// The check of 9 on whole tables.
+    fn break_no_rule(&self, form: &PlainForm) -> bool;
 }
 
-impl Functions {
-    pub fn answer(&self, tables: &Tables, question: Question) -> bool {
-        let links = tables.links.lent();
-        let tag_links = tables.tag_links.lent();
-        match question {
-            Question::ActsFor { p, q } => (self.acts_for)(links, p, q),
-            // The numbers of principal links are those of links of tag 0.
-            Question::ClosesPrincipalCycle { p, q } => (self.closes_cycle)(links, 0, p, q),
-            Question::ClosesTagCycle { tag, p, q } => (self.closes_cycle)(tag_links, tag, p, q),
-            Question::Authoritative { own, p } => (self.authoritative)(links, tag_links, own, p),
-            Question::AuthoritativeSub { own, above, p } => {
-                (self.authoritative_sub)(links, tag_links, own, above, p)
-            }
-            Question::PrincipalLinksHold => (self.principal_links_hold)(links, tables.principals),
-            Question::TagLinksHold => {
-                (self.tag_links_hold)(tag_links, tables.tags, tables.principals)
-            }
+pub fn answer(functions: &dyn Functions, tables: &Tables, question: Question) -> bool {
+    let links = tables.links.lent();
+    let tag_links = tables.tag_links.lent();
+    match question {
+        Question::ActsFor { p, q } => functions.acts_for(links, p, q),
+        // The numbers of principal links are those of links of tag 0.
+        Question::ClosesPrincipalCycle { p, q } => functions.closes_cycle(links, 0, p, q),
+        Question::ClosesTagCycle { tag, p, q } => functions.closes_cycle(tag_links, tag, p, q),
+        Question::Authoritative { own, p } => functions.authoritative(tables, own, p),
+        Question::AuthoritativeSub { own, above, p } => {
+            functions.authoritative_sub(tables, own, above, p)
+        }
+        Question::PrincipalLinksHold => functions.principal_links_hold(links, tables.principals),
+        Question::TagLinksHold => {
+            functions.tag_links_hold(tag_links, tables.tags, tables.principals)
         }
     }
 }

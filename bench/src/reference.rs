@@ -6,7 +6,6 @@
 use crate::graphs::parts;
 use crate::questions::{List, Question, Rooted, Tables};
 use second::authority::{leads, Authority, Link, TagLink, TagRow};
-use second::places::used;
 use second::things::{Principal, Tag, MAX_LINKS, MAX_PRINCIPALS, MAX_TAGS};
 use std::collections::BTreeSet;
 
@@ -66,10 +65,7 @@ fn decoded(list: &List) -> Vec<(u32, Link)> {
             },
         ))
     };
-    used(&list.places, list.count)
-        .iter()
-        .filter_map(decode)
-        .collect()
+    list.lent().used().iter().filter_map(decode).collect()
 }
 
 /// A number of 64 or more names no principal, and so nobody who is authoritative.
@@ -101,10 +97,8 @@ pub fn broken(tables: &Tables, question: Question) -> Vec<&'static str> {
 type Named = (u32, u32, u32);
 
 fn broken_in(list: &List, tags: u32, principals: u32) -> Vec<&'static str> {
-    let links: Vec<Named> = used(&list.places, list.count)
-        .iter()
-        .map(|x| parts(*x))
-        .collect();
+    let used = list.lent().used();
+    let links: Vec<Named> = used.iter().map(|link| parts(*link)).collect();
     let made = |l: &Named| l.0 < tags && l.1 < principals && l.2 < principals;
     let rules = [
         ("other than 256 places", list.places.len() != MAX_LINKS),

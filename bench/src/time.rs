@@ -1,11 +1,17 @@
 //! The benchmark: nanoseconds a question, proved and plain Rust, in one run and by
-//! turns, the best of many batches. The lists are warm in the cache; the rows of
+//! turns, the best of many batches. The tables are warm in the cache; the rows of
 //! bits are cleared by the functions themselves, and that is counted.
 
-use crate::graphs::{any_order, graph, list, shared_out, zigzag_order, Random, Shape};
-use crate::plain::PLAIN;
-use crate::proved::PROVED;
-use crate::questions::{Functions, Question, Rooted, Tables};
+use crate::form::PlainForm;
+use crate::graphs::{any_order, graph, list, shared_out, zigzag_order, Shape};
+use crate::plain::PlainRust;
+use crate::proved::Proved;
+use crate::questions::{answer, Functions, Question, Rooted, Tables};
+use crate::random::Random;
+use crate::sound::{sound, Sizes, FULL, NEARLY_EMPTY};
+use second::authority::Authority;
+use second::state::State;
+use second::things::LINE_MEMORY;
 use std::io::{self, Write};
 use std::time::{Duration, Instant};
 
@@ -13,16 +19,22 @@ const SEED: u64 = 1;
 const BATCHES: u32 = 40;
 const BATCH: Duration = Duration::from_millis(2);
 
-/// A walk takes at most so many times as long as in plain Rust; so does a whole list.
+/// A walk takes at most so many times as long as in plain Rust; so does a test of a
+/// whole list or of whole tables.
 const WALK_GOAL: f64 = 1.5;
-const LIST_GOAL: f64 = 3.0;
+const WHOLE_GOAL: f64 = 3.0;
 
 struct Case {
     name: &'static str,
-    tables: Tables,
-    question: Question,
+    asked: Asked,
     answer: bool,
     goal: f64,
+}
+
+enum Asked {
+    OfLinks(Tables, Question),
+    /// Whether whole tables break no rule.
+    OfAll(PlainForm),
 }
 
 struct Measured {
@@ -31,7 +43,7 @@ struct Measured {
     asked: u32,
 }
 
-pub fn time(output: &mut impl Write) -> io::Result<()> {
+pub fn time(output: &mut dyn Write) -> io::Result<()> {
     let cases = cases(&mut Random::new(SEED));
     let mut measured: Vec<Measured> = cases.iter().map(start).collect();
     for turn in 0..BATCHES {
@@ -74,31 +86,35 @@ fn cases(random: &mut Random) -> Vec<Case> {
         tag_list(random, "tag list, 256 links over 1 tag", 1, 256),
         tag_list(random, "tag list, 20 links over 4 tags", 4, 20),
         tag_list(random, "tag list, 0 links, 64 tags", 64, 0),
+        whole_tables("rules of 9, full tables, 8 pairs", &of(random, EIGHT_PAIRS)),
+        whole_tables("rules of 9, full tables, 64 pairs", &of(random, FULL)),
+        whole_tables(
+            "rules of 9, 3 principals, 2 + 1 links, 1 tag, 2 objects, 1 pair",
+            &of(random, NEARLY_EMPTY),
+        ),
+        whole_tables("rules of 9, fresh tables", &State::fresh(LINE_MEMORY)),
     ]
 }
+
+const EIGHT_PAIRS: Sizes = Sizes { pairs: 8, ..FULL };
 
 /// The worst case: the walk meets every principal and every link, and says no.
 fn acts_for(random: &mut Random, name: &'static str, principals: u32, links: usize) -> Case {
     let (tables, head) = walked(random, principals, links);
-    let question = Question::ActsFor { p: 0, q: head };
-    Case {
-        name,
-        tables,
-        question,
-        answer: false,
-        goal: WALK_GOAL,
-    }
+    walk(name, tables, Question::ActsFor { p: 0, q: head })
 }
 
 /// The worst case: both walks meet every principal and every link.
 fn authoritative(random: &mut Random, name: &'static str, principals: u32, links: usize) -> Case {
     let (tables, head) = walked(random, principals, links);
     let own = Rooted { tag: 0, root: head };
-    let question = Question::Authoritative { own, p: 0 };
+    walk(name, tables, Question::Authoritative { own, p: 0 })
+}
+
+fn walk(name: &'static str, tables: Tables, question: Question) -> Case {
     Case {
         name,
-        tables,
-        question,
+        asked: Asked::OfLinks(tables, question),
         answer: false,
         goal: WALK_GOAL,
     }
@@ -118,39 +134,54 @@ fn walked(random: &mut Random, principals: u32, links: usize) -> (Tables, u8) {
 fn principal_list(random: &mut Random, name: &'static str, links: usize) -> Case {
     let order = any_order(random, 0, 64);
     let links = graph(random, Shape::Scattered, 0, &order, links);
-    whole_list(
-        tables(random, links, Vec::new(), 0),
-        name,
-        Question::PrincipalLinksHold,
-    )
+    let tables = tables(random, links, Vec::new(), 0);
+    whole_list(name, tables, Question::PrincipalLinksHold)
 }
 
 fn zigzag_list(random: &mut Random, name: &'static str) -> Case {
     let links = graph(random, Shape::Chain, 0, &zigzag_order(1, 64), 256);
-    whole_list(
-        tables(random, links, Vec::new(), 0),
-        name,
-        Question::PrincipalLinksHold,
-    )
+    let tables = tables(random, links, Vec::new(), 0);
+    whole_list(name, tables, Question::PrincipalLinksHold)
 }
 
 fn tag_list(random: &mut Random, name: &'static str, tags: u32, links: usize) -> Case {
     let links = shared_out(random, Shape::Scattered, tags, (0, 64), links);
-    whole_list(
-        tables(random, Vec::new(), links, tags),
-        name,
-        Question::TagLinksHold,
-    )
+    let tables = tables(random, Vec::new(), links, tags);
+    whole_list(name, tables, Question::TagLinksHold)
 }
 
-fn whole_list(tables: Tables, name: &'static str, question: Question) -> Case {
+fn whole_list(name: &'static str, tables: Tables, question: Question) -> Case {
+    whole(name, Asked::OfLinks(tables, question))
+}
+
+fn whole_tables(name: &'static str, state: &State) -> Case {
+    whole(name, Asked::OfAll(PlainForm::from(state)))
+}
+
+fn whole(name: &'static str, asked: Asked) -> Case {
     Case {
         name,
-        tables,
-        question,
+        asked,
         answer: true,
-        goal: LIST_GOAL,
+        goal: WHOLE_GOAL,
     }
+}
+
+/// Sound tables of just these sizes.
+fn of(random: &mut Random, sizes: Sizes) -> State {
+    let state = sound(random, sizes);
+    let Authority {
+        principal_links,
+        tag_links,
+        ..
+    } = &state.authority;
+    let there = [
+        principal_links.len(),
+        tag_links.len(),
+        state.memory.pairs.len(),
+    ];
+    assert_eq!(there, [sizes.links, sizes.tag_links, sizes.pairs]);
+    state
 }
 
 fn tables(random: &mut Random, links: Vec<u32>, tag_links: Vec<u32>, tags: u32) -> Tables {
@@ -166,8 +197,8 @@ fn tables(random: &mut Random, links: Vec<u32>, tag_links: Vec<u32>, tags: u32) 
 fn start(case: &Case) -> Measured {
     let mut asked = 1;
     loop {
-        let proved = batch(&PROVED, case, asked);
-        let plain = batch(&PLAIN, case, asked);
+        let proved = batch(&Proved, case, asked);
+        let plain = batch(&PlainRust, case, asked);
         if proved.min(plain) >= BATCH {
             return Measured {
                 proved,
@@ -183,23 +214,26 @@ fn start(case: &Case) -> Measured {
 fn improve(case: &Case, best: &mut Measured, turn: u32) {
     let proved_first = turn % 2 == 0;
     for proved in [proved_first, !proved_first] {
-        let functions = if proved { &PROVED } else { &PLAIN };
-        let took = batch(functions, case, best.asked);
-        let least = if proved {
-            &mut best.proved
+        if proved {
+            best.proved = best.proved.min(batch(&Proved, case, best.asked));
         } else {
-            &mut best.plain
-        };
-        *least = took.min(*least);
+            best.plain = best.plain.min(batch(&PlainRust, case, best.asked));
+        }
     }
 }
 
-fn batch(functions: &'static Functions, case: &Case, asked: u32) -> Duration {
+fn batch(functions: &dyn Functions, case: &Case, asked: u32) -> Duration {
     let mut expected = 0;
     let before = Instant::now();
     for _ in 0..asked {
-        let answer = hidden(functions).answer(hidden(&case.tables), hidden(case.question));
-        expected += u32::from(answer == case.answer);
+        let functions = hidden(functions);
+        let yes = match &case.asked {
+            Asked::OfLinks(tables, question) => {
+                answer(functions, hidden(tables), hidden(*question))
+            }
+            Asked::OfAll(form) => functions.break_no_rule(hidden(form)),
+        };
+        expected += u32::from(yes == case.answer);
     }
     let took = before.elapsed();
     assert_eq!(expected, asked, "a wrong answer: {}", case.name);
@@ -212,7 +246,7 @@ fn hidden<T: Copy>(value: T) -> T {
     unsafe { std::ptr::read_volatile(&value) }
 }
 
-fn print(case: &Case, best: &Measured, output: &mut impl Write) -> io::Result<()> {
+fn print(case: &Case, best: &Measured, output: &mut dyn Write) -> io::Result<()> {
     let each = |took: Duration| took.as_nanos() as f64 / f64::from(best.asked);
     let (proved, plain) = (each(best.proved), each(best.plain));
     writeln!(

@@ -74,9 +74,7 @@ pub const PROFILES: &[Profile] = &[
         name: "withdrawals",
         about: "grants cut off and restored, with questions in between",
         passages: &[
-            few_principals,
-            few_tags,
-            few_threads,
+            few_of_each,
             cut_and_restored,
             subtag_of_a_holder,
             |d| d.storm(WITHDRAWALS, 120),
@@ -132,12 +130,10 @@ pub const PROFILES: &[Profile] = &[
         name: "objects",
         about: "64 objects under many labels, freed and made again",
         passages: &[
-            few_principals,
-            few_tags,
-            few_threads,
+            few_of_each,
             |d| d.storm(&[INTO_SECRECY, INTO_INTEGRITY, INTO_INTEGRITY], 12),
             all_objects,
-            |d| d.storm(OBJECTS, 150),
+            |d| objects(d, 150),
         ],
     },
     Profile {
@@ -147,17 +143,15 @@ pub const PROFILES: &[Profile] = &[
             few_tags,
             full_queue,
             few_objects,
-            |d| d.storm(OBJECTS, 100),
+            |d| objects(d, 100),
             full_queue,
-            |d| d.storm(OBJECTS, 100),
+            |d| objects(d, 100),
         ],
     },
     Profile {
         name: "labels",
         about: "threads that take tags in and out, reading and writing under them",
-        passages: &[few_principals, few_tags, few_threads, few_objects, |d| {
-            d.storm(LABELS, 250)
-        }],
+        passages: &[few_of_each, few_objects, |d| labels(d, 250)],
     },
     Profile {
         name: "lines",
@@ -215,43 +209,25 @@ const WITHDRAWALS: &[u8] = &[
     INTO_INTEGRITY,
 ];
 
-const OBJECTS: &[u8] = &[
-    NEW_OBJECT,
-    DELETE,
-    READ_CELL,
-    WRITE_CELL,
-    PUT,
-    PUT,
-    GET,
-    LOCK,
-    UNLOCK,
-    SEND_OUT,
-    BRING_IN,
+const ON_OBJECTS: &[u8] = &[
+    NEW_OBJECT, DELETE, READ_CELL, WRITE_CELL, PUT, GET, LOCK, UNLOCK, SEND_OUT, BRING_IN,
+];
+
+const ON_LABELS: &[u8] = &[
     INTO_SECRECY,
     OUT_OF_SECRECY,
     INTO_INTEGRITY,
     OUT_OF_INTEGRITY,
 ];
 
-const LABELS: &[u8] = &[
-    AUTHORITATIVE,
-    INTO_SECRECY,
-    OUT_OF_SECRECY,
-    INTO_INTEGRITY,
-    OUT_OF_INTEGRITY,
-    NEW_OBJECT,
-    DELETE,
-    READ_CELL,
-    WRITE_CELL,
-    PUT,
-    GET,
-    LOCK,
-    UNLOCK,
-    SEND_OUT,
-    BRING_IN,
-    FORK,
-    END,
-];
+fn objects(d: &mut Draft, lines: usize) {
+    d.storm(&[ON_OBJECTS, &[PUT], ON_LABELS].concat(), lines);
+}
+
+fn labels(d: &mut Draft, lines: usize) {
+    let others = [AUTHORITATIVE, FORK, END];
+    d.storm(&[ON_OBJECTS, ON_LABELS, &others].concat(), lines);
+}
 
 pub fn profile(name: &str) -> Option<&'static Profile> {
     PROFILES.iter().find(|profile| profile.name == name)

@@ -142,6 +142,13 @@ pub fn few_threads(d: &mut Draft) {
     d.until(|d| d.state.threads.len() >= 6, fork);
 }
 
+/// Principals, tags and threads.
+pub fn few_of_each(d: &mut Draft) {
+    few_principals(d);
+    few_tags(d);
+    few_threads(d);
+}
+
 pub fn all_threads(d: &mut Draft) {
     d.until(|d| d.state.threads.len() >= MAX_THREADS, fork);
     d.storm(&[kinds::FORK, kinds::END, kinds::FORK], 6);
