@@ -28,7 +28,7 @@ fn is_link_of(base: u32, l: u32) -> bool
 }
 
 // Gathers those of the first n links that are of the graph with this base into empty rows.
-fn gather(links: &[u32], n: usize, base: u32, rows: &mut [u64])
+fn gather(links: &[u32], n: usize, base: u32, rows: &mut [u64; 64])
     requires { ⌜ (n ≤ length (now links)) × (base + 64 < 4294967296) ⌝ }
     requires { ⌜ Rows [] (now rows) ⌝ }
     ensures { λ _. ⌜ Rows (linksFrom base (take n (now (links .entry)))) (now (rows .exit)) ⌝ }
@@ -46,8 +46,8 @@ fn gather(links: &[u32], n: usize, base: u32, rows: &mut [u64])
 }
 
 // Adds to `seen` the principal p, not met before, and what is reached from it.
-fn visit(rows: &[u64], p: u32, seen: u64) -> u64
-    requires { ⌜ (length (now rows) ≡ 64) × (p < 64) × (contains seen p ≡ false) ⌝ }
+fn visit(rows: &[u64; 64], p: u32, seen: u64) -> u64
+    requires { ⌜ (p < 64) × (contains seen p ≡ false) ⌝ }
     ensures { λ r. ⌜ Met (now (rows .entry)) (2 ^ p) seen r ⌝ }
 {
     visit_each(rows, rows[p as usize], seen | (1 << p))
@@ -55,8 +55,7 @@ fn visit(rows: &[u64], p: u32, seen: u64) -> u64
 
 // Adds to `seen` each principal of a set, such as the far ends of the links that leave one, and what is
 // reached from it.
-fn visit_each(rows: &[u64], set: u64, seen: u64) -> u64
-    requires { ⌜ length (now rows) ≡ 64 ⌝ }
+fn visit_each(rows: &[u64; 64], set: u64, seen: u64) -> u64
     ensures { λ r. ⌜ Met (now (rows .entry)) set seen r ⌝ }
 {
     let mut s = seen;

@@ -50,35 +50,35 @@ pub +visit+visit-each-spec : {M : Type 1} → statement M
     close μ-visit μ-visit-each
     (λ t. visit-lts.spec (visit-each-below t, visit-each.Post) (visit-at t) visit.Post
     (λ c. search needs)
-    (λ c. omega (arith, c .before .before .pre .1 .0, c .before .before .pre .1 .1))
-    (λ c. c .before .before .pre .1 .1)
+    (λ c. c .pre .1 .0)
+    (λ c. c .before .pre .1 .0)
+    (λ c κs.
+    let a = c .before .args in
+    let pre = c .before .pre .1 in
+    let fewer = left-lt (a .seen) (marked (a .seen) (a .p)) (a .p) (marked-keeps (a .seen) (a .p) (pre .0)) (pre .0) (pre .1) (marked-there (a .seen) (a .p) (pre .0)) in
+    (omega (arith, fewer), tt))
+    (λ c. let a = c .before .before .args in met-one (a .rows .now) (a .seen) (a .p) (c .visit-each .result) (c .before .before .pre .1 .0) (c .visit-each .ensures)))
+    (λ t. visit-each-lts.spec (visit-below t, visit.Post) (visit-each-at t) visit-each.Post Inv-loop μ-loop
+    (λ c. let a = c .args in (refl, c .fits .seen .fits, meeting-none (a .rows .now) (a .set) (a .seen)))
     (λ c κs.
     let a = c .before .before .args in
-    let pre = c .before .before .pre .1 in
-    let fewer = left-lt (a .seen) (marked (a .seen) (a .p)) (a .p) (marked-keeps (a .seen) (a .p) (pre .1)) (pre .1) (pre .2) (marked-there (a .seen) (a .p) (pre .1)) in
-    (omega (arith, fewer), pre .0))
-    (λ c. let a = c .before .before .before .args in met-one (a .rows .now) (a .seen) (a .p) (c .visit-each .result) (c .before .before .before .pre .1 .1) (c .visit-each .ensures)))
-    (λ t. visit-each-lts.spec (visit-below t, visit.Post) (visit-each-at t) visit-each.Post Inv-loop μ-loop
-    (λ c. let a = c .before .args in (refl, c .before .fits .seen .fits, meeting-none (a .rows .now) (a .set) (a .seen)))
-    (λ c κs.
-    let a = c .before .before .before .args in
     let o = c .before .loop in
     let fewer = left-le (a .seen) (o .s) (o .inv .2 .kept) in
-    let fits = c .before .before .before .fits .set .fits in
+    let fits = c .before .before .fits .set .fits in
     let some = c .loop-test .taken in (
       omega (arith, fewer),
-      (c .before .before .before .pre .1, next-low (a .set) (o .s) (o .rest) fits (o .inv .1) (o .inv .0) some, next-new (a .set) (o .s) (o .rest) fits (o .inv .1) (o .inv .0) some),
+      (next-low (a .set) (o .s) (o .rest) fits (o .inv .1) (o .inv .0) some, next-new (a .set) (o .s) (o .rest) fits (o .inv .1) (o .inv .0) some),
     ))
     (λ c.
-    let a = c .before .before .before .before .args in
+    let a = c .before .before .before .args in
     let o = c .before .before .loop in
-    next-falls (a .set) (o .s) (o .rest) (c .before .before .before .before .fits .set .fits) (o .inv .1) (o .inv .0) (c .before .loop-test .taken) (a .rows .now) (c .visit .result) (c .visit .ensures))
-    (λ c.
-    let a = c .before .before .before .before .args in
-    let o = c .before .before .loop in
-    let one = next-of (a .set) (o .s) (o .rest) (c .before .before .before .before .fits .set .fits) (o .inv .1) (o .inv .0) (c .before .loop-test .taken) in
-    (refl, omega (arith, c .visit .ok), meeting-next (a .rows .now) (a .set) (a .seen) (o .s) (trailingZeros 64 (o .rest)) (c .visit .result) (o .inv .2) one (c .visit .ensures)))
+    next-falls (a .set) (o .s) (o .rest) (c .before .before .before .fits .set .fits) (o .inv .1) (o .inv .0) (c .before .loop-test .taken) (a .rows .now) (c .visit .result) (c .visit .ensures))
     (λ c.
     let a = c .before .before .before .args in
+    let o = c .before .before .loop in
+    let one = next-of (a .set) (o .s) (o .rest) (c .before .before .before .fits .set .fits) (o .inv .1) (o .inv .0) (c .before .loop-test .taken) in
+    (refl, omega (arith, c .visit .ok), meeting-next (a .rows .now) (a .set) (a .seen) (o .s) (trailingZeros 64 (o .rest)) (c .visit .result) (o .inv .2) one (c .visit .ensures)))
+    (λ c.
+    let a = c .before .before .args in
     let o = c .before .loop in
-    meeting-all (a .rows .now) (a .set) (a .seen) (o .s) (c .before .before .before .fits .set .fits) (o .inv .1) (sym (o .inv .0) ∙ (let z : o .rest ≡ 0 = omega arith in z)) (o .inv .2)))
+    meeting-all (a .rows .now) (a .set) (a .seen) (o .s) (c .before .before .fits .set .fits) (o .inv .1) (sym (o .inv .0) ∙ (let z : o .rest ≡ 0 = omega arith in z)) (o .inv .2)))

@@ -1,5 +1,5 @@
 -- `links::walk::gather` meets its contract: the rows hold the links of the places passed. Assumes nothing.
-use mathlib.Core.Path.{_≡_, sym, subst, _∙_}
+use mathlib.Core.Path.{_≡_, sym, subst}
 use mathlib.Core.Logic.{⊎-elim}
 use Prim.Native.Nat.{ℕ, _+_, _-_, _/_, _%_, _≤_, _<_}
 use native.Mathlib.Omega.{arith}
@@ -21,18 +21,18 @@ abbrev μ-loop : tie.MeasureT-loop
 
 -- the number at hand is that of a link
 names : (c : tie.Then1 Inv-loop μ-loop) →
-    let l = getD (c .before .before .before .before .before .before .before .args .links .now) (c .before .before .before .before .loop .i) 0 in
-    let base = c .before .before .before .before .before .before .before .args .base in
+    let l = getD (c .before .before .before .before .before .before .args .links .now) (c .before .before .before .before .loop .i) 0 in
+    let base = c .before .before .before .before .before .before .args .base in
     Names base l (l / 256 - base) (l % 256)
 names c =
-    let a = c .before .before .before .before .before .before .before .args in
+    let a = c .before .before .before .before .before .before .args in
     test-names (a .base) (getD (a .links .now) (c .before .before .before .before .loop .i) 0) (by-yes (c .before .is-link-of .ensures) (c .if1 .taken))
 
 loop-again : tie.Need-loop-again Inv-loop μ-loop
 loop-again c =
-    let a = c .before .before .before .before .before .before .before .args in
+    let a = c .before .before .before .before .before .before .args in
     let o = c .before .before .before .before .loop in
-    let fits : o .i < length (a .links .now) = omega (arith, c .before .before .before .before .before .before .before .pre .0 .0) in
+    let fits : o .i < length (a .links .now) = omega (arith, c .before .before .before .before .before .before .pre .0 .0) in
     let is = c .before .is-link-of .ensures in (
       omega arith,
       ⊎-elim
@@ -43,12 +43,7 @@ loop-again c =
 
 loop-holds : tie.Need-loop-holds Inv-loop μ-loop
 unfolding linksFrom
-loop-holds c = (omega arith, c .before .before .pre .1)
-
--- its row is there
-row-there : (c : tie.Then1 Inv-loop μ-loop) →
-    getD (c .before .before .before .before .before .before .before .args .links .now) (c .before .before .before .before .loop .i) 0 / 256 - c .before .before .before .before .before .before .before .args .base < length (c .before .before .before .before .loop .rows)
-row-there c = omega (arith, names c .from-low, c .before .before .before .before .loop .inv .1 .size)
+loop-holds c = (omega arith, c .before .pre .1)
 
 pub gather-spec : {M : Type 1} → statement M
 gather-spec =
@@ -58,22 +53,21 @@ gather-spec =
     μ-loop
     loop-holds
     (λ c. search needs)
-    (λ c. omega (arith, c .before .before .before .before .before .pre .0 .0))
-    (λ c κs. c .before .before .before .before .before .pre .0 .1)
+    (λ c. omega (arith, c .before .before .before .before .pre .0 .0))
+    (λ c κs. c .before .before .before .before .pre .0 .1)
     (λ c. omega (arith, names c .near))
     (λ c. omega (arith, names c .from-low))
     (λ c. omega (arith, names c .from-low))
-    (λ c. row-there (c .before))
+    (λ c. names c .from-low)
     (λ c. omega (arith, names (c .before) .to-low))
     (λ c. names (c .before) .to-low)
     (λ c. omega (arith, names (c .before) .from-low))
-    (λ c. row-there (c .before))
-    (λ c. omega (arith, c .before .before .before .before .before .before .before .pre .0 .0))
+    (λ c. names (c .before) .from-low)
+    (λ c. omega (arith, c .before .before .before .before .before .before .pre .0 .0))
     (λ c. omega arith)
     loop-again
-    (λ c. c .before .loop .inv .1 .size ∙ sym (c .before .before .before .before .pre .1 .size))
     (λ c.
-    let a = c .before .before .before .before .args in
+    let a = c .before .before .before .args in
     let o = c .before .loop in
     let all : o .i ≡ a .n = omega arith in
     subst (λ (k : ℕ). Rows (linksFrom (a .base) (take k (a .links .now))) (o .rows)) all (o .inv .1)))

@@ -19,17 +19,15 @@ led-to-from-spec =
     (tie.spec
     (λ c κs. search needs)
     (λ c κs. search needs)
-    (λ c. search needs)
     (λ c κs.
     let base = c .before .base-of in
     ((omega (arith, c .before .before .used .ensures), base-room (c .before .before .before .before .args .g) (base .result) (base .ensures) (omega (arith, base .ok))), rows-none))
-    (λ c. search needs)
-    (λ c κs. c .before .before .gather .ensures .size)
+    (λ c κs. search needs)
     (λ c.
-    let a = c .before .before .before .before .before .before .before .before .args in
+    let a = c .before .before .before .before .before .before .before .args in
     let l = a .links .now in
-    let base = c .before .before .before .before .before .base-of in
-    let n = c .before .before .before .before .before .before .used in
+    let base = c .before .before .before .before .base-of in
+    let n = c .before .before .before .before .before .used in
     let xs = take (n .result) l in
-    met-is (linksFrom (base .result) xs) (linksFrom-low (base .result) xs) _ (c .before .before .before .gather .ensures) (a .starts) (c .visit-each .result) (c .before .before .before .before .before .before .before .before .fits .starts .fits) (omega (arith, c .visit-each .ok)) (c .visit-each .ensures)
+    met-is (linksFrom (base .result) xs) (linksFrom-low (base .result) xs) _ (c .before .before .gather .ensures) (a .starts) (c .visit-each .result) (c .before .before .before .before .before .before .before .fits .starts .fits) (omega (arith, c .visit-each .ok)) (c .visit-each .ensures)
     ∙ ap (λ (ls : List Link). ledToFrom ls (a .starts)) (in-use l (a .n) (a .g) (base .result) (n .result) (base .ensures) (n .ensures))))
