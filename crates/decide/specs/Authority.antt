@@ -1,6 +1,6 @@
 -- Kinds 01 to 09 (01, "Requests"): their rows' refusals in order, and what is done. s is what the request sees, l the list of
--- principal links, g that of tag links, and yes the answer to the question of authority, where one was asked. Assumes nothing.
-use mathlib.Core.Bool.{Bool, true, false, not, cond, _||_}
+-- principal links, g that of tag links, and `allowed` the answer to the question of authority, where one was asked. Assumes nothing.
+use mathlib.Core.Bool.{Bool, true, false, not, cond}
 use mathlib.Core.List.{List}
 use Prim.Native.Nat.{ℕ, _*_}
 use lib.Dec.{eqb, leb}
@@ -14,7 +14,6 @@ use Rattle.links.specs.declared.lists.Graph.the-variants.{Principals, OfTag}
 use Rattle.links.specs.declared.authority.Rooted.{Rooted}
 use Rattle.links.specs.declared.authority.Lineage.{Lineage}
 use Rattle.links.specs.declared.authority.Lineage.the-variants as lineage
-use Rattle.links.specs.Paths.{Link}
 use Rattle.links.specs.Links.{linksIn, linkNumber, findIn}
 use Rattle.links.specs.Authority.{actsFor, countedNode, linksOf}
 use Rattle.links.specs.Cycles.{closesCycle}
@@ -52,10 +51,28 @@ abbrev pub ungranted : Found → Outcome
 ungranted (At i) = grantsChanged (list.Remove i)
 ungranted Nothing = done
 
+-- "01 .. else 00"
+abbrev pub toldBool : Bool → Outcome
+toldBool b = cond b (told 1) (told 0)
+
 module _ (s : Sight) where
   -- "caller": who the thread runs as
   abbrev pub caller : Principal
   caller = s .caller .principal
+
+  -- 01: "caller public 5; 64 principals or 256 links 7"; "link new to caller; answers number"
+  unfoldable pub newPrincipal : Outcome
+  newPrincipal =
+      cond (isPublic caller) (refused Authority)
+      (cond (leb mostPrincipals (s .principals)) (refused Full)
+      (cond (leb linkPlaces (s .links)) (refused Full)
+      (record {
+        answer = Value (s .principals);
+        links = list.Append (linkNumber 0 (record { 0 = s .principals }) caller);
+        grants = list.Keep;
+        store = store.Keep;
+        rows = rows.NewPrincipal;
+      })))
 
   module _ (l : List ℕ) where
     -- "caller does not act for P"
@@ -65,18 +82,9 @@ module _ (s : Sight) where
     abbrev pub placeOfLink : Principal → Principal → Found
     placeOfLink p q = findIn (take (s .links) l) (linkNumber 0 p q)
 
-    -- 01: "caller public 5; 64 principals or 256 links 7"; "link new to caller; answers number"
-    unfoldable pub newPrincipal : Outcome
-    newPrincipal =
-        cond (isPublic caller) (refused Authority)
-        (cond (leb mostPrincipals (s .principals) || leb linkPlaces (s .links)) (refused Full)
-        (record {
-          answer = Value (s .principals);
-          links = list.Append (linkNumber 0 (record { 0 = s .principals }) caller);
-          grants = list.Keep;
-          store = store.Keep;
-          rows = rows.NewPrincipal;
-        }))
+    -- "P = Q or a path Q to P"
+    abbrev pub closesLinks : Principal → Principal → Bool
+    closesLinks p q = closesCycle (linksIn l (s .links) Principals) p q
 
     -- 02: "caller does not act for P, or Q public 5; link there: done, no change; P = Q or a path Q to P: 6; 256 links 7"
     unfoldable pub delegate : Principal → Principal → Outcome
@@ -84,7 +92,7 @@ module _ (s : Sight) where
         cond (not (callerActsFor p)) (refused Authority)
         (cond (isPublic q) (refused Authority)
         (cond (isFound (placeOfLink p q)) done
-        (cond (closesCycle (linksIn l (s .links) Principals) p q) (refused Cycle)
+        (cond (closesLinks p q) (refused Cycle)
         (cond (leb linkPlaces (s .links)) (refused Full)
         (linksChanged (list.Append (linkNumber 0 p q)))))))
 
@@ -94,27 +102,23 @@ module _ (s : Sight) where
 
     -- 04: "01 if P acts for Q, else 00"
     unfoldable pub tellsActsFor : Principal → Principal → Outcome
-    tellsActsFor p q = told (cond (actsFor (linksIn l (s .links) Principals) p q) 1 0)
+    tellsActsFor p q = toldBool (actsFor (linksIn l (s .links) Principals) p q)
+
+  -- "64 tags 7", else the next number, and the caller as its maker
+  unfoldable pub tagAdded : Rank → Outcome
+  tagAdded rank =
+      cond (leb mostTags (s .tags)) (refused Full)
+      (rowsChanged (Value (s .tags)) (rows.NewTag (record { root = caller; rank = rank })))
 
   -- 05: "caller public 5; 64 tags 7"
   unfoldable pub newTag : Outcome
-  newTag =
-      cond (isPublic caller) (refused Authority)
-      (cond (leb mostTags (s .tags)) (refused Full)
-      (rowsChanged (Value (s .tags)) (rows.NewTag (record { root = caller; rank = Supertag }))))
+  newTag = cond (isPublic caller) (refused Authority) (tagAdded Supertag)
 
   -- 06: "not authoritative 5; 64 tags 7"
   unfoldable pub newSubtag : Tag → Bool → Outcome
-  newSubtag t yes =
-      cond (not yes) (refused Authority)
-      (cond (leb mostTags (s .tags)) (refused Full)
-      (rowsChanged (Value (s .tags)) (rows.NewTag (record { root = caller; rank = SubtagOf t }))))
+  newSubtag t allowed = cond (not allowed) (refused Authority) (tagAdded (SubtagOf t))
 
-  module _ (l g : List ℕ) where
-    -- the links of T's own graph
-    abbrev pub ownLinks : Tag → List Link
-    ownLinks t = linksIn g (s .grants) (OfTag t)
-
+  module _ (g : List ℕ) where
     abbrev pub placeOfGrant : Tag → Principal → Principal → Found
     placeOfGrant t p q = findIn (take (s .grants) g) (linkNumber (t .0 * 256) p q)
 
@@ -122,30 +126,35 @@ module _ (s : Sight) where
     abbrev pub counted : Principal → Bool
     counted p = countedNode (linksOf g (s .grants) (ownOf (s .lineage))) (ownOf (s .lineage) .root) p
 
+    -- "P = Q or a recorded path of T from Q to P"
+    abbrev pub closesGrants : Tag → Principal → Principal → Bool
+    closesGrants t p q = closesCycle (linksIn g (s .grants) (OfTag t)) p q
+
+  module _ (l g : List ℕ) where
     -- 07: "caller does not act for P, P not a counted node of T's own graph, or Q public 5; link there: done; P = Q or a recorded path
     -- of T from Q to P: 6; 256 links 7"
     unfoldable pub grant : Tag → Principal → Principal → Outcome
     grant t p q =
         cond (not (callerActsFor l p)) (refused Authority)
-        (cond (not (counted p)) (refused Authority)
+        (cond (not (counted g p)) (refused Authority)
         (cond (isPublic q) (refused Authority)
-        (cond (isFound (placeOfGrant t p q)) done
-        (cond (closesCycle (ownLinks t) p q) (refused Cycle)
+        (cond (isFound (placeOfGrant g t p q)) done
+        (cond (closesGrants g t p q) (refused Cycle)
         (cond (leb linkPlaces (s .grants)) (refused Full)
         (grantsChanged (list.Append (linkNumber (t .0 * 256) p q))))))))
 
     -- 08: "caller does not act for P 5; no link: done"
     unfoldable pub ungrant : Tag → Principal → Principal → Outcome
-    ungrant t p q = cond (not (callerActsFor l p)) (refused Authority) (ungranted (placeOfGrant t p q))
+    ungrant t p q = cond (not (callerActsFor l p)) (refused Authority) (ungranted (placeOfGrant g t p q))
 
     abbrev pub decideAuthority : AuthorityRequest → Bool → Outcome
-    decideAuthority NewPrincipal yes = newPrincipal l
-    decideAuthority (Delegate p q) yes = delegate l p q
-    decideAuthority (Revoke p q) yes = revoke l p q
-    decideAuthority (ActsFor p q) yes = tellsActsFor l p q
-    decideAuthority NewTag yes = newTag
-    decideAuthority (NewSubtag t) yes = newSubtag t yes
-    decideAuthority (Grant t p q) yes = grant t p q
-    decideAuthority (Ungrant t p q) yes = ungrant t p q
+    decideAuthority NewPrincipal allowed = newPrincipal
+    decideAuthority (Delegate p q) allowed = delegate l p q
+    decideAuthority (Revoke p q) allowed = revoke l p q
+    decideAuthority (ActsFor p q) allowed = tellsActsFor l p q
+    decideAuthority NewTag allowed = newTag
+    decideAuthority (NewSubtag t) allowed = newSubtag t allowed
+    decideAuthority (Grant t p q) allowed = grant t p q
+    decideAuthority (Ungrant t p q) allowed = ungrant t p q
     -- 09: "01 or 00 for the caller"
-    decideAuthority (Authoritative t) yes = told (cond yes 1 0)
+    decideAuthority (Authoritative t) allowed = toldBool allowed

@@ -1,2 +1,5 @@
 pub mod Outcomes
 pub mod Authority
+pub mod Threads
+pub mod Objects
+pub mod Decide

@@ -11,12 +11,16 @@ ghost use Rattle.decide.specs.Authority.{
   ungranted,
   callerActsFor,
   placeOfLink,
+  closesLinks,
   placeOfGrant,
   counted,
+  closesGrants,
   newPrincipal,
   delegate,
   revoke,
   tellsActsFor,
+  toldBool,
+  tagAdded,
   newTag,
   newSubtag,
   grant,
@@ -84,7 +88,250 @@ fn place_of_link(s: Sight, links: &[u32], p: Principal, q: Principal) -> Found
 }
 
 fn place_of_grant(s: Sight, grants: &[u32], t: Tag, p: Principal, q: Principal) -> Found
-    ensures { λ r. ⌜ r ≡ placeOfGrant s (now (grants .entry)) (now (grants .entry)) t p q ⌝ }
+    ensures { λ r. ⌜ r ≡ placeOfGrant s (now (grants .entry)) t p q ⌝ }
 {
     links::find(grants, s.grants, links::tag_link(t, p, q))
+}
+
+fn linked(s: Sight, links: &[u32], p: Principal, q: Principal) -> bool
+    ensures { λ r. ⌜ r ≡ isFound (placeOfLink s (now (links .entry)) p q) ⌝ }
+{
+    is_found(place_of_link(s, links, p, q))
+}
+
+fn granted(s: Sight, grants: &[u32], t: Tag, p: Principal, q: Principal) -> bool
+    ensures { λ r. ⌜ r ≡ isFound (placeOfGrant s (now (grants .entry)) t p q) ⌝ }
+{
+    is_found(place_of_grant(s, grants, t, p, q))
+}
+
+// "P = Q or a path Q to P", of principal links.
+fn closes_links(s: Sight, links: &[u32], p: Principal, q: Principal) -> bool
+    ensures { λ r. ⌜ r ≡ closesLinks s (now (links .entry)) p q ⌝ }
+{
+    links::closes_cycle(links, s.links, Graph::Principals, p, q)
+}
+
+// "P = Q or a recorded path of T from Q to P".
+fn closes_grants(s: Sight, grants: &[u32], t: Tag, p: Principal, q: Principal) -> bool
+    ensures { λ r. ⌜ r ≡ closesGrants s (now (grants .entry)) t p q ⌝ }
+{
+    links::closes_cycle(grants, s.grants, Graph::OfTag(t), p, q)
+}
+
+// "A counted node of T's own graph".
+fn is_counted(s: Sight, grants: &[u32], p: Principal) -> bool
+    ensures { λ r. ⌜ r ≡ counted s (now (grants .entry)) p ⌝ }
+{
+    let lineage = s.lineage;
+    links::counted_node(grants, s.grants, own_of(lineage), p)
+}
+
+fn is_public(p: Principal) -> bool
+    ensures { λ r. ⌜ r ≡ isPublic p ⌝ }
+{
+    p.0 == PUBLIC
+}
+
+fn caller_is_public(s: Sight) -> bool
+    ensures { λ r. ⌜ r ≡ isPublic (s .caller .principal) ⌝ }
+{
+    let caller = s.caller;
+    is_public(caller.principal)
+}
+
+// 01
+fn new_principal(s: Sight) -> Outcome
+    ensures { λ r. ⌜ r ≡ newPrincipal s ⌝ }
+{
+    if caller_is_public(s) {
+        return refused(Refusal::Authority);
+    }
+    let n = s.principals as usize;
+    if PRINCIPALS <= n {
+        return refused(Refusal::Full);
+    }
+    if LINKS <= s.links {
+        return refused(Refusal::Full);
+    }
+    let caller = s.caller;
+    let who = caller.principal;
+    let number = n as u8;
+    Outcome {
+        answer: Answer::Value(number),
+        links: ListChange::Append(links::principal_link(Principal(number), who)),
+        grants: ListChange::Keep,
+        store: StoreChange::Keep,
+        rows: RowChange::NewPrincipal,
+    }
+}
+
+// 02
+fn decide_delegate(s: Sight, links: &[u32], p: Principal, q: Principal) -> Outcome
+    ensures { λ r. ⌜ r ≡ delegate s (now (links .entry)) p q ⌝ }
+{
+    if !caller_acts_for(s, links, p) {
+        return refused(Refusal::Authority);
+    }
+    if is_public(q) {
+        return refused(Refusal::Authority);
+    }
+    if linked(s, links, p, q) {
+        return done();
+    }
+    if closes_links(s, links, p, q) {
+        return refused(Refusal::Cycle);
+    }
+    if LINKS <= s.links {
+        return refused(Refusal::Full);
+    }
+    links_changed(ListChange::Append(links::principal_link(p, q)))
+}
+
+// "link removed", or none there
+fn unlink(place: Found) -> Outcome
+    ensures { λ r. ⌜ r ≡ unlinked place ⌝ }
+{
+    match place {
+        Found::At(i) => links_changed(ListChange::Remove(i)),
+        Found::Nothing => done(),
+    }
+}
+
+fn ungrant_at(place: Found) -> Outcome
+    ensures { λ r. ⌜ r ≡ ungranted place ⌝ }
+{
+    match place {
+        Found::At(i) => grants_changed(ListChange::Remove(i)),
+        Found::Nothing => done(),
+    }
+}
+
+// 03
+fn decide_revoke(s: Sight, links: &[u32], p: Principal, q: Principal) -> Outcome
+    ensures { λ r. ⌜ r ≡ revoke s (now (links .entry)) p q ⌝ }
+{
+    if !caller_acts_for(s, links, p) {
+        return refused(Refusal::Authority);
+    }
+    unlink(place_of_link(s, links, p, q))
+}
+
+// 04
+fn tell_acts_for(s: Sight, links: &[u32], p: Principal, q: Principal) -> Outcome
+    ensures { λ r. ⌜ r ≡ tellsActsFor s (now (links .entry)) p q ⌝ }
+{
+    tell(links::acts_for(links, s.links, p, q))
+}
+
+// 01 or 00
+fn tell(b: bool) -> Outcome
+    ensures { λ r. ⌜ r ≡ toldBool b ⌝ }
+{
+    if b { told(1) } else { told(0) }
+}
+
+// 05
+fn new_tag(s: Sight) -> Outcome
+    ensures { λ r. ⌜ r ≡ newTag s ⌝ }
+{
+    if caller_is_public(s) {
+        return refused(Refusal::Authority);
+    }
+    add_tag(s, Rank::Supertag)
+}
+
+// 06
+fn new_subtag(s: Sight, t: Tag, allowed: bool) -> Outcome
+    ensures { λ r. ⌜ r ≡ newSubtag s t allowed ⌝ }
+{
+    if !allowed {
+        return refused(Refusal::Authority);
+    }
+    add_tag(s, Rank::SubtagOf(t))
+}
+
+// "64 tags 7", else the next number and the caller as its maker
+fn add_tag(s: Sight, rank: Rank) -> Outcome
+    ensures { λ r. ⌜ r ≡ tagAdded s rank ⌝ }
+{
+    let n = s.tags as usize;
+    if TAGS <= n {
+        return refused(Refusal::Full);
+    }
+    let caller = s.caller;
+    let root = caller.principal;
+    let row = TagRow { root, rank };
+    rows_changed(Answer::Value(n as u8), RowChange::NewTag(row))
+}
+
+// 07
+fn decide_grant<'a>(
+    s: Sight,
+    links: &'a [u32],
+    grants: &'a [u32],
+    t: Tag,
+    p: Principal,
+    q: Principal,
+) -> Outcome
+    ensures { λ r. ⌜ r ≡ grant s (now (links .entry)) (now (grants .entry)) t p q ⌝ }
+{
+    if !caller_acts_for(s, links, p) {
+        return refused(Refusal::Authority);
+    }
+    if !is_counted(s, grants, p) {
+        return refused(Refusal::Authority);
+    }
+    if is_public(q) {
+        return refused(Refusal::Authority);
+    }
+    if granted(s, grants, t, p, q) {
+        return done();
+    }
+    if closes_grants(s, grants, t, p, q) {
+        return refused(Refusal::Cycle);
+    }
+    if LINKS <= s.grants {
+        return refused(Refusal::Full);
+    }
+    grants_changed(ListChange::Append(links::tag_link(t, p, q)))
+}
+
+// 08
+fn decide_ungrant<'a>(
+    s: Sight,
+    links: &'a [u32],
+    grants: &'a [u32],
+    t: Tag,
+    p: Principal,
+    q: Principal,
+) -> Outcome
+    ensures { λ r. ⌜ r ≡ ungrant s (now (links .entry)) (now (grants .entry)) t p q ⌝ }
+{
+    if !caller_acts_for(s, links, p) {
+        return refused(Refusal::Authority);
+    }
+    ungrant_at(place_of_grant(s, grants, t, p, q))
+}
+
+pub fn decide_authority<'a>(
+    s: Sight,
+    links: &'a [u32],
+    grants: &'a [u32],
+    r: AuthorityRequest,
+    allowed: bool,
+) -> Outcome
+    ensures { λ o. ⌜ o ≡ decideAuthority s (now (links .entry)) (now (grants .entry)) r allowed ⌝ }
+{
+    match r {
+        AuthorityRequest::NewPrincipal => new_principal(s),
+        AuthorityRequest::Delegate(p, q) => decide_delegate(s, links, p, q),
+        AuthorityRequest::Revoke(p, q) => decide_revoke(s, links, p, q),
+        AuthorityRequest::ActsFor(p, q) => tell_acts_for(s, links, p, q),
+        AuthorityRequest::NewTag => new_tag(s),
+        AuthorityRequest::NewSubtag(t) => new_subtag(s, t, allowed),
+        AuthorityRequest::Grant(t, p, q) => decide_grant(s, links, grants, t, p, q),
+        AuthorityRequest::Ungrant(t, p, q) => decide_ungrant(s, links, grants, t, p, q),
+        AuthorityRequest::Authoritative(_) => tell(allowed),
+    }
 }

@@ -3,13 +3,13 @@
 // On it stand the refusals 2, 3 and 4, and whether a request asks for authority (crate `prelude`).
 mod names;
 
+pub use names::tag_named;
 ghost use mathlib.Core.Path.{_≡_};
 ghost use Rattle.tables.specs.Things.{objectAt};
 ghost use Rattle.sight.specs.Sight.{callerIn, callerOf, freeFor, sightOf};
 use crate::names::is_fork;
 use crate::names::is_new;
 use crate::names::object_named;
-use crate::names::tag_named;
 use frames::requests::Request;
 use links::Lineage;
 use numbers::LabelPair;
