@@ -5,8 +5,9 @@ use Prim.Native.Nat.{ℕ, _+_, _-_, _≤_}
 use native.Mathlib.Nat.{add-sub-cancel-left}
 use native.Mathlib.Omega.{arith}
 use borrow.Author.Needs.{needs}
-use lib.ListN.{length, set, length-set, length-take, length-drop}
+use lib.ListN.{length, set, length-set}
 use Rattle.store.specs.Store.{byteAt, part}
+use Rattle.store.proofs.Over.{part-length}
 use Rattle.answers.specs.declared.Answer.{Answer}
 use Rattle.answers.specs.Answers.{Ready, answerBytes, front, saidMessage}
 use Rattle.answers.proofs.write.Statement.{statement}
@@ -20,10 +21,6 @@ two-bytes : (l : List ℕ) (x y : ℕ) → 34 ≤ length l → set (set l 0 x) 1
 two-bytes [] x y h = absurd (omega arith)
 two-bytes (z ∷ []) x y h = absurd (omega arith)
 two-bytes (z ∷ (w ∷ l)) x y h = refl
-
--- a part of a list that is long enough is as long as it should be
-part-long : (s : List ℕ) (at n : ℕ) → at + n ≤ length s → length (part s at n) ≡ n
-part-long s at n h = simp (length-take, length-drop) (omega arith)
 
 pub write-spec : {M : Type 1} → statement M
 write-spec =
@@ -45,7 +42,7 @@ write-spec =
     (λ c κs.
     let a = c .before .before .before .before .before .before .before .before .args in
     let r = subst (Ready (a .frame .now) (a .store .now)) (c .before .before .before .a3 .given .1) (c .before .before .before .before .before .before .before .before .pre .0) in
-    (subst (λ (m : List ℕ). length m ≤ 32) (sym (c .before .message .ensures)) (omega (arith, part-long (a .store .now) (c .before .before .before .a3 .given .0 .0 + 1) (byteAt (a .store .now) (c .before .before .before .a3 .given .0 .0)) (omega (arith, r .0, r .1)), r .1)), c .before .before .before .before .before .before .before .before .pre .1))
+    (subst (λ (m : List ℕ). length m ≤ 32) (sym (c .before .message .ensures)) (omega (arith, part-length (a .store .now) (c .before .before .before .a3 .given .0 .0 + 1) (byteAt (a .store .now) (c .before .before .before .a3 .given .0 .0)) (omega (arith, r .0, r .1)), r .1)), c .before .before .before .before .before .before .before .before .pre .1))
     (λ c. search needs)
     (λ c.
     let a = c .before .before .before .before .before .before .before .args in
@@ -61,7 +58,7 @@ write-spec =
     let a = c .before .before .before .before .before .before .before .before .before .args in
     let r = subst (Ready (a .frame .now) (a .store .now)) (c .before .before .before .before .a4 .given .1) (c .before .before .before .before .before .before .before .before .before .pre .0) in
     let m = c .before .before .before .before .a4 .given .0 .0 in
-    (subst (λ (n : ℕ). length (part (a .frame .now) (m .at) n) ≤ 32) (sym (add-sub-cancel-left (m .at) (m .len))) (omega (arith, part-long (a .frame .now) (m .at) (m .len) (r .0), r .1)), c .before .before .before .before .before .before .before .before .before .pre .1))
+    (subst (λ (n : ℕ). length (part (a .frame .now) (m .at) n) ≤ 32) (sym (add-sub-cancel-left (m .at) (m .len))) (omega (arith, part-length (a .frame .now) (m .at) (m .len) (r .0), r .1)), c .before .before .before .before .before .before .before .before .before .pre .1))
     (λ c. search needs)
     (λ c.
     let a = c .before .before .before .before .before .before .before .args in
