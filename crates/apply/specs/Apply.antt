@@ -14,12 +14,12 @@ use Rattle.tables.specs.declared.rows.TagRow.{TagRow}
 use Rattle.tables.specs.declared.rows.ObjectRow.{ObjectRow}
 use Rattle.tables.specs.Things.{nobody, noThread, threadAt}
 use Rattle.answers.specs.Answers.{givenBy}
-use Rattle.decide.specs.declared.outcome.ListChange.{ListChange}
-use Rattle.decide.specs.declared.outcome.ListChange.the-variants as list
-use Rattle.decide.specs.declared.outcome.StoreChange.{StoreChange}
-use Rattle.decide.specs.declared.outcome.StoreChange.the-variants as store
-use Rattle.decide.specs.declared.outcome.RowChange.{RowChange}
-use Rattle.decide.specs.declared.outcome.RowChange.the-variants as rows
+use Rattle.outcomes.specs.declared.ListChange.{ListChange}
+use Rattle.outcomes.specs.declared.ListChange.the-variants as list
+use Rattle.outcomes.specs.declared.StoreChange.{StoreChange}
+use Rattle.outcomes.specs.declared.StoreChange.the-variants as store
+use Rattle.outcomes.specs.declared.RowChange.{RowChange}
+use Rattle.outcomes.specs.declared.RowChange.the-variants as rows
 
 -- ---- a list of links, of which n places are in use, and its count
 
@@ -56,12 +56,9 @@ StoreFits (store.Free at) f s = at + objectSize ≤ length s
 
 -- ---- the rows
 
-abbrev pub withThreads : Tables → List ThreadRow → Tables
-withThreads t x =
-    record { principals = t .principals; links = t .links; tags = t .tags; grants = t .grants; threads = x; kinds = t .kinds; objects = t .objects }
-
 abbrev pub withThread : Tables → ℕ → ThreadRow → Tables
-withThread t n r = withThreads t (set (t .threads) n r)
+withThread t n r =
+    record { principals = t .principals; links = t .links; tags = t .tags; grants = t .grants; threads = set (t .threads) n r; kinds = t .kinds; objects = t .objects }
 
 -- 01: one principal more
 abbrev pub withPrincipal : Tables → Tables
@@ -76,10 +73,6 @@ withTag t r =
 abbrev pub withObject : Tables → ℕ → ObjectRow → Tables
 withObject t o r =
     record { principals = t .principals; links = t .links; tags = t .tags; grants = t .grants; threads = t .threads; kinds = t .kinds; objects = set (t .objects) o r }
-
-abbrev pub withCounts : Tables → ℕ → ℕ → Tables
-withCounts t n k =
-    record { principals = t .principals; links = n; tags = t .tags; grants = k; threads = t .threads; kinds = t .kinds; objects = t .objects }
 
 -- 0A to 0D: the row's labels change
 abbrev pub labelled : ThreadRow → LabelPair → ThreadRow

@@ -4,8 +4,8 @@ pub mod rows;
 
 ghost use mathlib.Core.Path.{_≡_};
 ghost use Rattle.apply.specs.Apply.{applyList, countAfter, ListFits, applyStore, StoreFits};
-use decide::outcome::ListChange;
-use decide::outcome::StoreChange;
+use outcomes::ListChange;
+use outcomes::StoreChange;
 
 // A lent list of links, of which n places are in use.
 pub fn apply_list(c: ListChange, n: usize, links: &mut [u32])

@@ -14,10 +14,10 @@ ghost use Rattle.apply.specs.Apply.{
   applyRows,
   RowFits,
 };
-use decide::outcome::RowChange;
 use numbers::LabelPair;
 use numbers::PUBLIC;
 use numbers::Principal;
+use outcomes::RowChange;
 use tables::Tables;
 use tables::rows::ObjectRow;
 use tables::rows::TagRow;

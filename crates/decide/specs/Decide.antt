@@ -5,10 +5,10 @@ use Prim.Native.Nat.{ℕ}
 use Rattle.frames.specs.declared.requests.Request.{Request}
 use Rattle.frames.specs.declared.requests.Request.the-variants.{OfAuthority, OfThread, OfObject, OfOutside}
 use Rattle.sight.specs.declared.Sight.{Sight}
-use Rattle.decide.specs.declared.outcome.Outcome.{Outcome}
-use Rattle.decide.specs.Authority.{decideAuthority}
-use Rattle.decide.specs.Threads.{decideThread}
-use Rattle.decide.specs.Objects.{decideObject, decideOutside}
+use Rattle.outcomes.specs.declared.Outcome.{Outcome}
+use Rattle.decide_authority.specs.Authority.{decideAuthority}
+use Rattle.decide_threads.specs.Threads.{decideThread}
+use Rattle.decide_objects.specs.Objects.{decideObject, decideOutside}
 
 -- s is what the request sees, l the principal links, g the tag links, and `allowed` the answer to its question, where it has one
 abbrev pub decide : Sight → List ℕ → List ℕ → Request → Bool → Outcome

@@ -1,5 +1,1 @@
-pub mod Outcomes
-pub mod Authority
-pub mod Threads
-pub mod Objects
 pub mod Decide

@@ -1,19 +1,14 @@
 // What a request that passed 2, 3 and 4 comes to: refusals 5 to 8, or what is done (01, "Requests"). It reads
 // what the request sees, the two lists of links, and the yes or no to the question of authority; the memory is
 // not among it. It changes nothing.
-mod authority;
-mod objects;
-pub mod outcome;
-mod threads;
-
 ghost use mathlib.Core.Path.{_≡_};
 ghost use Rattle.decide.specs.Decide.{decide};
-use crate::authority::decide_authority;
-use crate::objects::decide_object;
-use crate::objects::decide_outside;
-use crate::outcome::Outcome;
-use crate::threads::decide_thread;
+use decide_authority::decide_authority;
+use decide_objects::decide_object;
+use decide_objects::decide_outside;
+use decide_threads::decide_thread;
 use frames::requests::Request;
+use outcomes::Outcome;
 use sight::Sight;
 
 pub fn decide<'a>(

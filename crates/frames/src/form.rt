@@ -4,6 +4,7 @@ ghost use mathlib.Core.Path.{_≡_};
 ghost use Rattle.frames.specs.Requests.{fixedLength, lengthByte, messageLength, wellFormed};
 use crate::KINDS;
 use crate::decode::byte_at;
+use numbers::LONGEST;
 
 // How long a frame of a kind is, but for the bytes of a message.
 const LENGTHS: [u8; 28] = [
@@ -68,9 +69,6 @@ const LENGTH_BYTES: [u8; 28] = [
     2,
     2,
 ];
-
-// "A message is 0 to 32 bytes", as a length byte has it.
-const LONGEST: u8 = 32;
 
 fn fixed_length(kind: u8) -> u8
     ensures { λ r. ⌜ r ≡ fixedLength kind ⌝ }

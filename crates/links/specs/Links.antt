@@ -1,7 +1,7 @@
 -- The lent lists (01, "Things and numbers"): "Principal links (from, to) and tag links (tag, from, to): a list of link records that
 -- the caller lends .. in order of acceptance". Here a record is one number: P * 256 + Q for a principal link (P, Q), and
 -- (T * 256 + P) * 256 + Q for a link (T, P, Q) of a tag. Assumes nothing.
-use mathlib.Core.Bool.{Bool, cond, _&&_}
+use mathlib.Core.Bool.{Bool, true, false, cond, _&&_}
 use mathlib.Core.List.{List, [], _∷_, _++_}
 use Prim.Native.Nat.{ℕ, suc, _+_, _-_, _*_, _/_, _%_, min}
 use lib.Dec.{eqb, ltb, leb}
@@ -44,6 +44,14 @@ findFrom i (y ∷ ys) x = cond (eqb y x) (At i) (findFrom (suc i) ys x)
 -- the first place of x
 abbrev pub findIn : List ℕ → ℕ → Found
 findIn ys x = findFrom 0 ys x
+
+abbrev pub isFound : Found → Bool
+isFound (At i) = true
+isFound Nothing = false
+
+-- x stands among the first n places
+abbrev pub stands : List ℕ → ℕ → ℕ → Bool
+stands l n x = isFound (findIn (take n l) x)
 
 -- "in order of acceptance": x at place n, where there is one
 abbrev pub appended : List ℕ → ℕ → ℕ → List ℕ

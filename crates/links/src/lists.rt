@@ -3,7 +3,7 @@
 ghost use mathlib.Core.Path.{_≡_};
 ghost use Prim.Native.Nat.{_*_, min};
 ghost use lib.ListN.{take};
-ghost use Rattle.links.specs.Links.{baseOf, linkNumber, findIn, appended, removed};
+ghost use Rattle.links.specs.Links.{baseOf, linkNumber, findIn, isFound, stands, appended, removed};
 use numbers::Principal;
 use numbers::Tag;
 
@@ -64,6 +64,22 @@ pub fn find(links: &[u32], n: usize, x: u32) -> Found
         i += 1;
     }
     Found::Nothing
+}
+
+pub fn is_found(f: Found) -> bool
+    ensures { λ r. ⌜ r ≡ isFound f ⌝ }
+{
+    match f {
+        Found::At(_) => true,
+        Found::Nothing => false,
+    }
+}
+
+// Whether it stands among them.
+pub fn stands(links: &[u32], n: usize, x: u32) -> bool
+    ensures { λ r. ⌜ r ≡ stands (now (links .entry)) n x ⌝ }
+{
+    is_found(find(links, n, x))
 }
 
 // A link more, at place n. A full list stays as it is.

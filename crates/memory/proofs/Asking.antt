@@ -4,10 +4,10 @@ use mathlib.Core.Bool.{Bool, true, false}
 use Prim.Native.Nat.{ℕ}
 use Rattle.numbers.proofs.Chain.{skip, hit}
 use Rattle.links.specs.declared.lists.Found.{Found}
-use Rattle.links.specs.Links.{findIn}
+use Rattle.links.specs.Links.{findIn, isFound}
 use Rattle.memory.specs.declared.Memory.{Memory}
 use Rattle.memory.specs.declared.Asked.{Asked}
-use Rattle.memory.specs.Remembered.{Fits, heldPairs, isFound, holds, counted, remembered, answered}
+use Rattle.memory.specs.Remembered.{Fits, heldPairs, holds, counted, remembered, answered}
 
 -- counting changes no pair
 pub counted-fits : (m : Memory) (held : Bool) → Fits m → Fits (counted m held)

@@ -12,9 +12,9 @@ use lib.ListN.{length, take, drop, length-take}
 use lib.Seq.{take-append-seam}
 use Rattle.numbers.proofs.Bools.{and-left, and-right, and-both, or-left, or-right, or-either, either, never}
 use Rattle.links.specs.declared.lists.Found.the-variants.{At}
-use Rattle.links.specs.Links.{findFrom, findIn}
+use Rattle.links.specs.Links.{findFrom, findIn, isFound}
 use Rattle.memory.specs.declared.Memory.{Memory}
-use Rattle.memory.specs.Remembered.{Fits, heldPairs, isFound, holds, without, holding, remembered, emptied, counted, answered}
+use Rattle.memory.specs.Remembered.{Fits, heldPairs, holds, without, holding, remembered, emptied, counted, answered}
 use Rattle.memory.specs.Truth.{among, distinct, Truthful}
 
 -- ---- which pairs are held

@@ -7,9 +7,7 @@ use lib.ListN.{length, take, drop, replicate}
 use Rattle.numbers.specs.declared.Principal.{Principal}
 use Rattle.numbers.specs.declared.Tag.{Tag}
 use Rattle.numbers.specs.Numbers.{oneMore, mostRemembered}
-use Rattle.links.specs.declared.lists.Found.{Found}
-use Rattle.links.specs.declared.lists.Found.the-variants.{At, Nothing}
-use Rattle.links.specs.Links.{findIn}
+use Rattle.links.specs.Links.{stands}
 use Rattle.memory.specs.declared.Memory.{Memory}
 use Rattle.memory.specs.declared.Asked.{Asked}
 
@@ -26,13 +24,9 @@ pub record Fits (m : Memory) : Type 0 where
 abbrev pub heldPairs : Memory → List ℕ
 heldPairs m = take (m .held) (m .pairs)
 
-abbrev pub isFound : Found → Bool
-isFound (At i) = true
-isFound Nothing = false
-
 -- the pair is held
 abbrev pub holds : Memory → ℕ → Bool
-holds m x = isFound (findIn (heldPairs m) x)
+holds m x = stands (m .pairs) (m .held) x
 
 -- the list without its first x
 unfoldable pub without : ℕ → List ℕ → List ℕ

@@ -8,7 +8,7 @@ ghost use Prim.Native.Nat.{_<_};
 ghost use Rattle.links.specs.declared.lists.Graph.the-variants.{Principals};
 ghost use Rattle.links.specs.Links.{linksIn, findIn};
 ghost use Rattle.links.specs.Authority.{authoritative};
-ghost use Rattle.memory.specs.Remembered.{Fits, pairOf, heldPairs, isFound, slid, withFront, remembered, emptied, counted, answered};
+ghost use Rattle.memory.specs.Remembered.{Fits, pairOf, heldPairs, slid, withFront, remembered, emptied, counted, answered};
 use links::Found;
 use links::Lineage;
 use numbers::Principal;
@@ -133,7 +133,7 @@ pub fn ask<'a>(
     let pair = pair_of(p, t);
     let pairs = m.pairs;
     let place = links::find(&pairs, m.held, pair);
-    if is_found(place) {
+    if links::is_found(place) {
         let hit = counted(m, true);
         return Asked {
             yes: true,
@@ -150,14 +150,5 @@ pub fn ask<'a>(
     Asked {
         yes: true,
         memory: remember(asked, place, pair),
-    }
-}
-
-fn is_found(f: Found) -> bool
-    ensures { λ r. ⌜ r ≡ isFound f ⌝ }
-{
-    match f {
-        Found::At(_) => true,
-        Found::Nothing => false,
     }
 }

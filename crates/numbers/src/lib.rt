@@ -46,6 +46,8 @@ pub const LOCK: u8 = 2;
 
 // "A message is 0 to 32 bytes. A queue holds at most 8"
 pub const MESSAGE: usize = 32;
+// The same as a length byte has it.
+pub const LONGEST: u8 = 32;
 
 pub const QUEUED: usize = 8;
 

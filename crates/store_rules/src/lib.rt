@@ -5,6 +5,7 @@ ghost use Prim.Native.Nat.{ℕ, _+_, _*_, _≤_, _<_};
 ghost use lib.ListN.{length};
 ghost use Rattle.tables.specs.Things.{objectAt};
 ghost use Rattle.store_rules.specs.StoreRules.{placesUsed, placeHolds, placesHold, objectHolds, storeHolds};
+use numbers::LONGEST;
 use numbers::MESSAGE;
 use numbers::OBJECTS;
 use store::OBJECT;
@@ -12,9 +13,6 @@ use store::PLACE;
 use store::zeros;
 use tables::rows::ObjectRow;
 use tables::rows::What;
-
-// "A message is 0 to 32 bytes", as a length byte has it.
-const LONGEST: u8 = 32;
 
 // How many of its 8 places an object uses.
 fn places_used(what: What) -> usize
