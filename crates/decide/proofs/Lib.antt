@@ -1,0 +1,3 @@
+pub mod AuthorityComes
+pub mod ThreadComes
+pub mod ObjectComes

@@ -53,19 +53,24 @@ module _ (s : Sight) where
   abbrev pub caller : Principal
   caller = s .caller .principal
 
-  -- 01: "caller public 5; 64 principals or 256 links 7"; "link new to caller; answers number"
-  unfoldable pub newPrincipal : Outcome
-  newPrincipal =
-      cond (isPublic caller) (refused Authority)
-      (cond (leb mostPrincipals (s .principals)) (refused Full)
-      (cond (leb linkPlaces (s .links)) (refused Full)
-      (record {
+  -- "link new to caller; answers number"
+  abbrev pub principalAdded : Outcome
+  principalAdded =
+      record {
         answer = Value (s .principals);
         links = list.Append (linkNumber 0 (record { 0 = s .principals }) caller);
         grants = list.Keep;
         store = store.Keep;
         rows = rows.NewPrincipal;
-      })))
+      }
+
+  -- 01: "caller public 5; 64 principals or 256 links 7"
+  unfoldable pub newPrincipal : Outcome
+  newPrincipal =
+      cond (isPublic caller) (refused Authority)
+      (cond (leb mostPrincipals (s .principals)) (refused Full)
+      (cond (leb linkPlaces (s .links)) (refused Full)
+      principalAdded))
 
   module _ (l : List ℕ) where
     -- "caller does not act for P"
@@ -90,19 +95,21 @@ module _ (s : Sight) where
     unfoldable pub tellsActsFor : Principal → Principal → Outcome
     tellsActsFor p q = toldBool (actsFor (linksIn l (s .links) Principals) p q)
 
-  -- "64 tags 7", else the next number, and the caller as its maker
-  unfoldable pub tagAdded : Rank → Outcome
-  tagAdded rank =
-      cond (leb mostTags (s .tags)) (refused Full)
-      (rowsChanged (Value (s .tags)) (rows.NewTag (record { root = caller; rank = rank })))
+  -- the next number, and the caller as its maker
+  abbrev pub tagAdded : Rank → Outcome
+  tagAdded rank = rowsChanged (Value (s .tags)) (rows.NewTag (record { root = caller; rank = rank }))
+
+  -- "64 tags 7"
+  unfoldable pub tagIfRoom : Rank → Outcome
+  tagIfRoom rank = cond (leb mostTags (s .tags)) (refused Full) (tagAdded rank)
 
   -- 05: "caller public 5; 64 tags 7"
   unfoldable pub newTag : Outcome
-  newTag = cond (isPublic caller) (refused Authority) (tagAdded Supertag)
+  newTag = cond (isPublic caller) (refused Authority) (tagIfRoom Supertag)
 
   -- 06: "not authoritative 5; 64 tags 7"
   unfoldable pub newSubtag : Tag → Bool → Outcome
-  newSubtag t allowed = cond (not allowed) (refused Authority) (tagAdded (SubtagOf t))
+  newSubtag t allowed = cond (not allowed) (refused Authority) (tagIfRoom (SubtagOf t))
 
   module _ (g : List ℕ) where
     -- "P not a counted node of T's own graph"

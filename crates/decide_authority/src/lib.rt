@@ -14,7 +14,7 @@ ghost use Rattle.decide_authority.specs.Authority.{
   revoke,
   tellsActsFor,
   toldBool,
-  tagAdded,
+  tagIfRoom,
   newTag,
   newSubtag,
   grant,
@@ -193,7 +193,7 @@ fn new_subtag(s: Sight, t: Tag, allowed: bool) -> Outcome
 
 // "64 tags 7", else the next number and the caller as its maker
 fn add_tag(s: Sight, rank: Rank) -> Outcome
-    ensures { λ r. ⌜ r ≡ tagAdded s rank ⌝ }
+    ensures { λ r. ⌜ r ≡ tagIfRoom s rank ⌝ }
 {
     let n = s.tags as usize;
     if TAGS <= n {

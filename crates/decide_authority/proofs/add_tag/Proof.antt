@@ -2,12 +2,12 @@
 use borrow.Author.Needs.{needs}
 use borrow.Author.Tests.{le-leb, lt-leb}
 use Rattle.numbers.proofs.Chain.{skip, hit}
-use Rattle.decide_authority.specs.Authority.{tagAdded}
+use Rattle.decide_authority.specs.Authority.{tagIfRoom}
 use Rattle.decide_authority.proofs.add_tag.Statement.{statement}
 use Rattle.decide_authority.proofs.add_tag.Tie as tie
 
 pub add-tag-spec : {M : Type 1} → statement M
-unfolding tagAdded
+unfolding tagIfRoom
 add-tag-spec =
     tie.close
     (tie.spec

@@ -1,0 +1,56 @@
+-- What is known of what kinds 12 to 19 come to: each outcome with the facts that its row's tests have shown. The laws above match on
+-- it and never unfold the tests. Assumes nothing.
+use mathlib.Core.Path.{_≡_}
+use mathlib.Core.Bool.{Bool, true, false}
+use Prim.Native.Nat.{ℕ, _+_, _-_, _<_}
+use Rattle.numbers.specs.declared.Object.{Object}
+use Rattle.numbers.specs.declared.flow.LabelPair.{LabelPair}
+use Rattle.numbers.specs.Labels.{namesOnlyMade}
+use Rattle.numbers.specs.Numbers.{mostObjects, mostQueued}
+use Rattle.store.specs.Store.{placeAt}
+use Rattle.tables.specs.Things.{noObject}
+use Rattle.tables.specs.Free.{isFree}
+use Rattle.tables.specs.declared.rows.What.{What}
+use Rattle.tables.specs.declared.rows.What.the-variants as what
+use Rattle.frames.specs.declared.requests.Span.{Span}
+use Rattle.frames.specs.declared.requests.ObjectKind.{ObjectKind}
+use Rattle.frames.specs.declared.requests.ObjectRequest.{ObjectRequest}
+use Rattle.frames.specs.declared.requests.ObjectRequest.the-variants.{New, Delete, ReadCell, WriteCell, Put, Get, Lock, Unlock}
+use Rattle.answers.specs.declared.Answer.the-variants.{Done, Value, Kept}
+use Rattle.answers.specs.declared.Refusal.{Refusal}
+use Rattle.sight.specs.declared.Sight.{Sight}
+use Rattle.prelude.specs.Prelude.{objectFits}
+use Rattle.outcomes.specs.declared.Outcome.{Outcome}
+use Rattle.outcomes.specs.declared.StoreChange.the-variants as store
+use Rattle.outcomes.specs.declared.RowChange.the-variants as rows
+use Rattle.outcomes.specs.Outcomes.{rowsChanged, refused}
+use Rattle.decide_objects.specs.Objects.{objectChanged, emptyOf, nowIs, decideObject}
+
+module _ (s : Sight) where
+  -- what the object is that the request names
+  abbrev is : What
+  is = s .object .what
+
+  pub data ObjectComes : ObjectRequest → Outcome → Type 0 where
+    stops : {r : ObjectRequest} (x : Refusal) → ObjectComes r (refused x)
+    makes :
+        {k : ObjectKind} {l : LabelPair} →
+        namesOnlyMade (l .secrecy) (s .tags) ≡ true →
+        namesOnlyMade (l .integrity) (s .tags) ≡ true →
+        s .free < mostObjects →
+        ObjectComes (New k l) (rowsChanged (Value (s .free)) (rows.Object (s .free) (record { what = emptyOf k; labels = l })))
+    deletes : {o : Object} → isFree is ≡ false → ObjectComes (Delete o) (objectChanged Done (store.Free (placeAt (o .0) 0)) (rows.Object (o .0) noObject))
+    reads : {o : Object} → is ≡ what.Cell → ObjectComes (ReadCell o) (rowsChanged (Kept (placeAt (o .0) 0)) rows.Keep)
+    writes : {o : Object} {m : Span} → is ≡ what.Cell → ObjectComes (WriteCell o m) (objectChanged Done (store.Put (placeAt (o .0) 0) m) rows.Keep)
+    puts :
+        {o : Object} {m : Span} (held : ℕ) →
+        is ≡ what.Queue held →
+        held < mostQueued →
+        ObjectComes (Put o m) (objectChanged Done (store.Put (placeAt (o .0) held) m) (nowIs s o (what.Queue (held + 1))))
+    gets :
+        {o : Object} (held : ℕ) →
+        is ≡ what.Queue held →
+        0 < held →
+        ObjectComes (Get o) (objectChanged (Kept (placeAt (o .0) 0)) (store.TakeFirst (placeAt (o .0) 0)) (nowIs s o (what.Queue (held - 1))))
+    locks : {o : Object} → is ≡ what.Lock false → ObjectComes (Lock o) (rowsChanged Done (nowIs s o (what.Lock true)))
+    unlocks : {o : Object} (locked : Bool) → is ≡ what.Lock locked → ObjectComes (Unlock o) (rowsChanged Done (nowIs s o (what.Lock false)))

@@ -1,0 +1,43 @@
+-- All that the three demands compare: the tables, the two lists of links and the store of messages. The memory stands beside it.
+-- Assumes nothing.
+use mathlib.Core.List.{List}
+use Prim.Native.Nat.{ℕ}
+use Rattle.tables.specs.declared.Tables.{Tables}
+use Rattle.frames.specs.Requests.{threadOf}
+use Rattle.outcomes.specs.declared.Outcome.{Outcome}
+use Rattle.answers.specs.Answers.{Ready}
+use Rattle.apply.specs.Apply.{applyList, countAfter, applyStore, applyRows, ListFits, StoreFits, RowFits}
+
+pub record World : Type 0 where
+  pub tables : Tables
+  pub links : List ℕ
+  pub grants : List ℕ
+  pub store : List ℕ
+
+-- the counts of links in use
+abbrev pub withCounts : Tables → ℕ → ℕ → Tables
+withCounts t n k =
+    record { principals = t .principals; links = n; tags = t .tags; grants = k; threads = t .threads; kinds = t .kinds; objects = t .objects }
+
+module _ (w : World) (f : List ℕ) (o : Outcome) where
+  abbrev pub appliedTables : Tables
+  appliedTables =
+      withCounts (applyRows (w .tables) (threadOf f .0) (o .rows)) (countAfter (o .links) (w .tables .links)) (countAfter (o .grants) (w .tables .grants))
+
+  -- what frame f came to is carried out
+  abbrev pub applied : World
+  applied =
+      record {
+        tables = appliedTables;
+        links = applyList (o .links) (w .tables .links) (w .links);
+        grants = applyList (o .grants) (w .tables .grants) (w .grants);
+        store = applyStore (o .store) f (w .store);
+      }
+
+  -- there is room for what is new, what changes is there, and so is the message of an answer
+  pub record HasRoom : Type 0 where
+    pub rows : RowFits (w .tables) (threadOf f .0) (o .rows)
+    pub links : ListFits (o .links) (w .tables .links)
+    pub grants : ListFits (o .grants) (w .tables .grants)
+    pub store : StoreFits (o .store) f (w .store)
+    pub answer : Ready f (w .store) (o .answer)
