@@ -1,3 +1,4 @@
+pub mod ByTest
 pub mod AuthorityComes
 pub mod ThreadComes
 pub mod ObjectComes
