@@ -10,9 +10,10 @@ use Rattle.memory.specs.declared.Memory.{Memory}
 use Rattle.memory.specs.declared.Asked.{Asked}
 use Rattle.memory.specs.Remembered.{pairOf, answered, emptied}
 use Rattle.tables.specs.declared.Tables.{Tables}
+use Rattle.frames.specs.declared.requests.Request.{Request}
 use Rattle.frames.specs.Requests.{threadOf, kindOf, requestOf, wellFormed}
 use Rattle.answers.specs.declared.Refusal.the-variants.{Malformed}
-use Rattle.answers.specs.Answers.{answerBytes, front}
+use Rattle.answers.specs.Answers.{answerBytes}
 use Rattle.sight.specs.declared.Sight.{Sight}
 use Rattle.sight.specs.Sight.{sightOf, tagNamed}
 use Rattle.prelude.specs.declared.Checked.{Checked}
@@ -23,6 +24,7 @@ use Rattle.outcomes.specs.declared.ListChange.{ListChange}
 use Rattle.outcomes.specs.declared.ListChange.the-variants as list
 use Rattle.outcomes.specs.Outcomes.{refused}
 use Rattle.decide.specs.Decide.{decide}
+use Rattle.step.specs.declared.Considered.{Considered}
 use Rattle.step.specs.World.{World, applied}
 
 abbrev pub passes : Checked → Bool
@@ -34,7 +36,27 @@ abbrev pub unlessStopped : Checked → Outcome → Outcome
 unlessStopped Passed o = o
 unlessStopped (Stopped r) o = refused r
 
--- the request of frame f, with tables t, principal links l and tag links g
+-- ---- a request r that sees s, with principal links l and tag links g
+
+module _ (s : Sight) (l g : List ℕ) (r : Request) where
+  -- of whom and about which tag it asks
+  abbrev pub pairAsked : ℕ
+  pairAsked = pairOf (s .caller .principal) (tagNamed r)
+
+  -- "otherwise the walk answers"
+  abbrev pub walked : Bool
+  walked = authoritative (linksIn l (s .links) Principals) g (s .grants) (s .lineage) (s .caller .principal)
+
+  -- the memory is asked, or nothing is: then it stays, and the answer is not looked at
+  abbrev pub askedIf : Bool → Memory → Asked
+  askedIf asking m = cond asking (answered m pairAsked walked) (record { yes = false; memory = m })
+
+  -- past 2, 3 and 4: the question, where there is one, and the kind's row
+  abbrev pub rowFollowed : Memory → Considered
+  rowFollowed m = record { outcome = decide s l g r (askedIf (asks s r) m .yes); memory = askedIf (asks s r) m .memory }
+
+-- ---- the request of frame f, with tables t, principal links l and tag links g
+
 module _ (t : Tables) (l g f : List ℕ) where
   abbrev pub seen : Sight
   seen = sightOf t (threadOf f) (requestOf f)
@@ -42,27 +64,20 @@ module _ (t : Tables) (l g f : List ℕ) where
   abbrev pub checked : Checked
   checked = prelude seen (kindOf f) (requestOf f)
 
-  -- ---- "A question .. is asked by 06, 09, 0B and 0C, once, when the authority check is reached"
-
+  -- "A question .. is asked by 06, 09, 0B and 0C, once, when the authority check is reached"
   abbrev pub asksOne : Bool
   asksOne = wellFormed f && (passes checked && asks seen (requestOf f))
 
-  -- of whom and about which tag
-  abbrev pub pairAsked : ℕ
-  pairAsked = pairOf (seen .caller .principal) (tagNamed (requestOf f))
-
-  -- "otherwise the walk answers"
-  abbrev pub walked : Bool
-  walked = authoritative (linksIn l (t .links) Principals) g (t .grants) (seen .lineage) (seen .caller .principal)
-
-  -- where nothing is asked, the memory stays and the answer is not looked at
   abbrev pub asked : Memory → Asked
-  asked m = cond asksOne (answered m pairAsked walked) (record { yes = false; memory = m })
+  asked m = askedIf seen l g (requestOf f) asksOne m
 
-  -- ---- what it comes to, where its question is answered so
-
+  -- what it comes to, where its question is answered so: 1, then 2, 3 and 4, then 5 to 8 or what is done
   unfoldable pub outcome : Bool → Outcome
   outcome allowed = cond (not (wellFormed f)) (refused Malformed) (unlessStopped checked (decide seen l g (requestOf f) allowed))
+
+  -- with the memory m
+  abbrev pub considered : Memory → Considered
+  considered m = record { outcome = outcome (asked m .yes); memory = asked m .memory }
 
 -- ---- "A removal that takes out a link empties the memory; additions do not."
 
@@ -77,18 +92,14 @@ remembers o m = cond (removes (o .links) || removes (o .grants)) (emptied m) m
 -- ---- the step: the world w and the memory m before it, the frame f
 
 module _ (w : World) (m : Memory) (f : List ℕ) where
-  abbrev pub question : Asked
-  question = asked (w .tables) (w .links) (w .grants) f m
-
-  abbrev pub stepOutcome : Outcome
-  stepOutcome = outcome (w .tables) (w .links) (w .grants) f (question .yes)
+  abbrev pub comesTo : Considered
+  comesTo = considered (w .tables) (w .links) (w .grants) f m
 
   abbrev pub stepWorld : World
-  stepWorld = applied w f stepOutcome
+  stepWorld = applied w f (comesTo .outcome)
 
   abbrev pub stepMemory : Memory
-  stepMemory = remembers stepOutcome (question .memory)
+  stepMemory = remembers (comesTo .outcome) (comesTo .memory)
 
-  -- the lent buffer a after it
-  abbrev pub stepAnswer : List ℕ → List ℕ
-  stepAnswer a = front (answerBytes f (w .store) (stepOutcome .answer)) a
+  abbrev pub stepAnswer : List ℕ
+  stepAnswer = answerBytes f (w .store) (comesTo .outcome .answer)

@@ -14,6 +14,10 @@ pub record World : Type 0 where
   pub grants : List ℕ
   pub store : List ℕ
 
+-- the tables t with the lists l of principal links and g of tag links, and the store s
+abbrev pub worldOf : Tables → List ℕ → List ℕ → List ℕ → World
+worldOf t l g s = record { tables = t; links = l; grants = g; store = s }
+
 -- the counts of links in use
 abbrev pub withCounts : Tables → ℕ → ℕ → Tables
 withCounts t n k =

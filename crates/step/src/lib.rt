@@ -1,0 +1,152 @@
+// One request (01) behind the check of 9: refusal 1, then 2, 3 and 4, then the question of authority where the
+// request asks one, then 5 to 8 of its kind's row, or what is done. It is defined for all tables that break no
+// rule but the truth of remembered pairs: there a held pair is a yes whatever the links say.
+//
+// What is decided sees only the answer to the question, not the memory; and nothing is changed before all is
+// decided.
+ghost use mathlib.Core.Path.{_≡_};
+ghost use Prim.Native.Nat.{_≤_};
+ghost use lib.ListN.{length};
+ghost use Rattle.memory.specs.Remembered.{Fits};
+ghost use Rattle.answers.specs.Answers.{front};
+ghost use Rattle.rules.specs.Tested.{holdButTruth};
+ghost use Rattle.step.specs.World.{worldOf, withCounts, applied, HasRoom};
+ghost use Rattle.step.specs.Step.{considered, rowFollowed, removes, remembers, stepWorld, stepMemory, stepAnswer};
+use answers::Refusal;
+use apply::apply_list;
+use apply::apply_store;
+use apply::count_after;
+use apply::rows::apply_rows;
+use decide::decide;
+use frames::decode::byte_at;
+use frames::decode::request_of;
+use frames::form::well_formed;
+use frames::requests::Request;
+use memory::Memory;
+use numbers::Thread;
+use outcomes::ListChange;
+use outcomes::Outcome;
+use outcomes::refused;
+use prelude::Checked;
+use prelude::asks_authority;
+use prelude::check;
+use sight::Sight;
+use sight::sight_of;
+use sight::tag_named;
+use state::State;
+use tables::Tables;
+
+// What a request comes to, and the memory after its question.
+pub struct Considered {
+    pub outcome: Outcome,
+    pub memory: Memory,
+}
+
+// Past 2, 3 and 4: the question, where there is one, and the kind's row.
+fn follow_row<'a>(
+    s: Sight,
+    m: Memory,
+    links: &'a [u32],
+    grants: &'a [u32],
+    r: Request,
+) -> Considered
+    requires { ⌜ Fits m ⌝ }
+    ensures { λ c. ⌜ c ≡ rowFollowed s (now (links .entry)) (now (grants .entry)) r m ⌝ }
+{
+    if asks_authority(s, r) {
+        let caller = s.caller;
+        let p = caller.principal;
+        let lineage = s.lineage;
+        let asked = memory::ask(m, links, s.links, grants, s.grants, lineage, p, tag_named(r));
+        let outcome = decide(s, links, grants, r, asked.yes);
+        let after = asked.memory;
+        return Considered { outcome, memory: after };
+    }
+    let outcome = decide(s, links, grants, r, false);
+    Considered { outcome, memory: m }
+}
+
+// The whole of it: 1, 2, 3 and 4 in order, then the row. It changes nothing.
+fn consider<'a>(
+    t: Tables,
+    m: Memory,
+    links: &'a [u32],
+    grants: &'a [u32],
+    frame: &'a [u8],
+) -> Considered
+    requires { ⌜ Fits m ⌝ }
+    ensures { λ c. ⌜ c ≡ considered t (now (links .entry)) (now (grants .entry)) (now (frame .entry)) m ⌝ }
+{
+    if !well_formed(frame) {
+        let outcome = refused(Refusal::Malformed);
+        return Considered { outcome, memory: m };
+    }
+    let r = request_of(frame);
+    let s = sight_of(t, Thread(byte_at(frame, 0)), r);
+    match check(s, byte_at(frame, 1), r) {
+        Checked::Passed => follow_row(s, m, links, grants, r),
+        Checked::Stopped(x) => {
+            let outcome = refused(x);
+            Considered { outcome, memory: m }
+        }
+    }
+}
+
+fn removes(c: ListChange) -> bool
+    ensures { λ r. ⌜ r ≡ removes c ⌝ }
+{
+    match c {
+        ListChange::Keep => false,
+        ListChange::Append(_) => false,
+        ListChange::Remove(_) => true,
+    }
+}
+
+// "A removal that takes out a link empties the memory; additions do not."
+fn remember(o: Outcome, m: Memory) -> Memory
+    ensures { λ r. ⌜ r ≡ remembers o m ⌝ }
+{
+    let links = o.links;
+    let grants = o.grants;
+    if removes(links) | removes(grants) {
+        return memory::clear(m);
+    }
+    m
+}
+
+fn with_counts(t: Tables, n: usize, k: usize) -> Tables
+    ensures { λ r. ⌜ r ≡ withCounts t n k ⌝ }
+{
+    let mut u = t;
+    u.links = n;
+    u.grants = k;
+    u
+}
+
+// What was decided is done.
+fn carry_out(
+    t: Tables,
+    links: &mut [u32],
+    grants: &mut [u32],
+    store: &mut [u8],
+    frame: &[u8],
+    o: Outcome,
+) -> Tables
+    requires { ⌜ HasRoom (worldOf t (now links) (now grants) (now store)) (now frame) o ⌝ }
+    ensures { λ r. ⌜ r ≡ applied (worldOf t (now (links .entry)) (now (grants .entry)) (now (store .entry))) (now (frame .entry)) o .tables ⌝ }
+    ensures { λ _. ⌜ now (links .exit) ≡ applied (worldOf t (now (links .entry)) (now (grants .entry)) (now (store .entry))) (now (frame .entry)) o .links ⌝ }
+    ensures { λ _. ⌜ now (grants .exit) ≡ applied (worldOf t (now (links .entry)) (now (grants .entry)) (now (store .entry))) (now (frame .entry)) o .grants ⌝ }
+    ensures { λ _. ⌜ now (store .exit) ≡ applied (worldOf t (now (links .entry)) (now (grants .entry)) (now (store .entry))) (now (frame .entry)) o .store ⌝ }
+{
+    let of_links = o.links;
+    let of_grants = o.grants;
+    let of_store = o.store;
+    let of_rows = o.rows;
+    let rows = apply_rows(t, byte_at(frame, 0) as usize, of_rows);
+    let n = t.links;
+    let k = t.grants;
+    apply_list(of_links, n, links);
+    apply_list(of_grants, k, grants);
+    apply_store(of_store, frame, store);
+    with_counts(rows, count_after(of_links, n), count_after(of_grants, k))
+}
