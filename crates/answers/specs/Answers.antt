@@ -37,6 +37,21 @@ answerBytes f s (Value v) = 0 ∷ v ∷ []
 answerBytes f s (Kept at) = saidMessage (messageAt s at)
 answerBytes f s (Given m) = saidMessage (givenBy f m)
 
+-- the status byte, and how many bytes there are
+abbrev pub statusOf : Answer → ℕ
+statusOf (Refused r) = refusalNumber r
+statusOf Done = 0
+statusOf (Value v) = 0
+statusOf (Kept at) = 0
+statusOf (Given m) = 0
+
+abbrev pub lengthOf : List ℕ → Answer → ℕ
+lengthOf s (Refused r) = 1
+lengthOf s Done = 1
+lengthOf s (Value v) = 2
+lengthOf s (Kept at) = 2 + byteAt s at
+lengthOf s (Given m) = 2 + m .len
+
 -- "put at the front of the lent buffer .. the rest of the buffer stays"
 abbrev pub front : List ℕ → List ℕ → List ℕ
 front bs l = bs ++ drop (length bs) l

@@ -7,7 +7,7 @@ ghost use mathlib.Core.Path.{_≡_};
 ghost use mathlib.Core.List.{_∷_};
 ghost use Prim.Native.Nat.{_≤_};
 ghost use lib.ListN.{length};
-ghost use Rattle.answers.specs.Answers.{refusalNumber, front, answerBytes, Ready};
+ghost use Rattle.answers.specs.Answers.{refusalNumber, statusOf, lengthOf, front, answerBytes, Ready};
 use frames::requests::Span;
 
 // Refusals 1 to 9, in order of check.
@@ -45,6 +45,32 @@ fn number_of(r: Refusal) -> u8
         Refusal::Full => 7,
         Refusal::Empty => 8,
         Refusal::BrokenRule => 9,
+    }
+}
+
+pub fn status_of(a: Answer) -> u8
+    ensures { λ r. ⌜ r ≡ statusOf a ⌝ }
+{
+    match a {
+        Answer::Refused(r) => number_of(r),
+        Answer::Done => 0,
+        Answer::Value(_) => 0,
+        Answer::Kept(_) => 0,
+        Answer::Given(_) => 0,
+    }
+}
+
+// How many bytes `write` puts at the front of the buffer.
+pub fn length_of<'a>(a: Answer, frame: &'a [u8], store: &'a [u8]) -> usize
+    requires { ⌜ Ready (now frame) (now store) a ⌝ }
+    ensures { λ r. ⌜ r ≡ lengthOf (now (store .entry)) a ⌝ }
+{
+    match a {
+        Answer::Refused(_) => 1,
+        Answer::Done => 1,
+        Answer::Value(_) => 2,
+        Answer::Kept(at) => 2 + store[at] as usize,
+        Answer::Given(m) => 2 + m.len,
     }
 }
 

@@ -3,6 +3,7 @@
 use mathlib.Core.Bool.{Bool, true, false, not, cond, _&&_, _||_}
 use mathlib.Core.List.{List}
 use Prim.Native.Nat.{ℕ}
+use lib.ListN.{length}
 use Rattle.links.specs.declared.lists.Graph.the-variants.{Principals}
 use Rattle.links.specs.Links.{linksIn}
 use Rattle.links.specs.Authority.{authoritative}
@@ -12,8 +13,9 @@ use Rattle.memory.specs.Remembered.{pairOf, answered, emptied}
 use Rattle.tables.specs.declared.Tables.{Tables}
 use Rattle.frames.specs.declared.requests.Request.{Request}
 use Rattle.frames.specs.Requests.{threadOf, kindOf, requestOf, wellFormed}
+use Rattle.answers.specs.declared.Answer.{Answer}
 use Rattle.answers.specs.declared.Refusal.the-variants.{Malformed}
-use Rattle.answers.specs.Answers.{answerBytes}
+use Rattle.answers.specs.Answers.{statusOf, answerBytes, front}
 use Rattle.sight.specs.declared.Sight.{Sight}
 use Rattle.sight.specs.Sight.{sightOf, tagNamed}
 use Rattle.prelude.specs.declared.Checked.{Checked}
@@ -24,8 +26,10 @@ use Rattle.outcomes.specs.declared.ListChange.{ListChange}
 use Rattle.outcomes.specs.declared.ListChange.the-variants as list
 use Rattle.outcomes.specs.Outcomes.{refused}
 use Rattle.decide.specs.Decide.{decide}
+use Rattle.state.specs.declared.State.{State}
 use Rattle.step.specs.declared.Considered.{Considered}
-use Rattle.step.specs.World.{World, applied}
+use Rattle.step.specs.declared.Replied.{Replied}
+use Rattle.step.specs.World.{World, worldOf, applied}
 
 abbrev pub passes : Checked → Bool
 passes Passed = true
@@ -103,3 +107,34 @@ module _ (w : World) (m : Memory) (f : List ℕ) where
 
   abbrev pub stepAnswer : List ℕ
   stepAnswer = answerBytes f (w .store) (comesTo .outcome .answer)
+
+-- ---- all that a request leaves
+
+pub record After : Type 0 where
+  -- its number or 0, how many bytes were written, and the state
+  pub replied : Replied
+  -- the two lists, the store and the lent answer buffer
+  pub links : List ℕ
+  pub grants : List ℕ
+  pub store : List ℕ
+  pub answer : List ℕ
+
+-- the world w and the memory m after the answer x, of these bytes; a is the answer buffer before it
+abbrev pub leaves : World → Memory → Answer → List ℕ → List ℕ → After
+leaves w m x bytes a =
+    record {
+      replied = record { status = statusOf x; written = length bytes; state = record { tables = w .tables; memory = m } };
+      links = w .links;
+      grants = w .grants;
+      store = w .store;
+      answer = front bytes a;
+    }
+
+-- the step, from the state s, the lists l and g, the store b, the frame f and the answer buffer a
+module _ (s : State) (l g b f a : List ℕ) where
+  abbrev pub before : World
+  before = worldOf (s .tables) l g b
+
+  abbrev pub stepped : After
+  stepped =
+      leaves (stepWorld before (s .memory) f) (stepMemory before (s .memory) f) (comesTo before (s .memory) f .outcome .answer) (stepAnswer before (s .memory) f) a

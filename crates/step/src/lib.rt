@@ -5,14 +5,17 @@
 // What is decided sees only the answer to the question, not the memory; and nothing is changed before all is
 // decided.
 ghost use mathlib.Core.Path.{_≡_};
+ghost use mathlib.Core.Bool.{true};
 ghost use Prim.Native.Nat.{_≤_};
 ghost use lib.ListN.{length};
 ghost use Rattle.memory.specs.Remembered.{Fits};
-ghost use Rattle.answers.specs.Answers.{front};
 ghost use Rattle.rules.specs.Tested.{holdButTruth};
 ghost use Rattle.step.specs.World.{worldOf, withCounts, applied, HasRoom};
-ghost use Rattle.step.specs.Step.{considered, rowFollowed, removes, remembers, stepWorld, stepMemory, stepAnswer};
+ghost use Rattle.step.specs.Step.{considered, rowFollowed, removes, remembers, stepped};
 use answers::Refusal;
+use answers::length_of;
+use answers::status_of;
+use answers::write;
 use apply::apply_list;
 use apply::apply_store;
 use apply::count_after;
@@ -40,6 +43,14 @@ use tables::Tables;
 pub struct Considered {
     pub outcome: Outcome,
     pub memory: Memory,
+}
+
+// What a request leaves beside the lent buffers: its number or 0, how many bytes of the answer buffer were
+// written, and the state.
+pub struct Replied {
+    pub status: u8,
+    pub written: usize,
+    pub state: State,
 }
 
 // Past 2, 3 and 4: the question, where there is one, and the kind's row.
@@ -149,4 +160,40 @@ fn carry_out(
     apply_list(of_grants, k, grants);
     apply_store(of_store, frame, store);
     with_counts(rows, count_after(of_links, n), count_after(of_grants, k))
+}
+
+// One request: its answer is written, and what it changes is changed. The answer comes first, because a
+// message that is taken from its queue is read from the store.
+pub fn step(
+    s: State,
+    links: &mut [u32],
+    grants: &mut [u32],
+    store: &mut [u8],
+    frame: &[u8],
+    answer: &mut [u8],
+) -> Replied
+    requires { ⌜ (holdButTruth (s .tables) (s .memory) (now links) (now grants) (now store) ≡ true) × (34 ≤ length (now answer)) ⌝ }
+    ensures { λ r. ⌜ r ≡ stepped s (now (links .entry)) (now (grants .entry)) (now (store .entry)) (now (frame .entry)) (now (answer .entry)) .replied ⌝ }
+    ensures { λ _. ⌜ now (links .exit) ≡ stepped s (now (links .entry)) (now (grants .entry)) (now (store .entry)) (now (frame .entry)) (now (answer .entry)) .links ⌝ }
+    ensures { λ _. ⌜ now (grants .exit) ≡ stepped s (now (links .entry)) (now (grants .entry)) (now (store .entry)) (now (frame .entry)) (now (answer .entry)) .grants ⌝ }
+    ensures { λ _. ⌜ now (store .exit) ≡ stepped s (now (links .entry)) (now (grants .entry)) (now (store .entry)) (now (frame .entry)) (now (answer .entry)) .store ⌝ }
+    ensures { λ _. ⌜ now (answer .exit) ≡ stepped s (now (links .entry)) (now (grants .entry)) (now (store .entry)) (now (frame .entry)) (now (answer .entry)) .answer ⌝ }
+{
+    let t = s.tables;
+    let m = s.memory;
+    let c = consider(t, m, links, grants, frame);
+    let o = c.outcome;
+    let a = o.answer;
+    let status = status_of(a);
+    let written = length_of(a, frame, store);
+    write(a, frame, store, answer);
+    let tables = carry_out(t, links, grants, store, frame, o);
+    let asked = c.memory;
+    let memory = remember(o, asked);
+    let state = State { tables, memory };
+    Replied {
+        status,
+        written,
+        state,
+    }
 }
