@@ -1,7 +1,7 @@
 -- Truth values: what a yes of a compound test says of its parts. Assumes nothing.
 use mathlib.Core.Path.{_≡_, refl, sym, _∙_}
 use mathlib.Core.Logic.{_⊎_, inl, inr}
-use mathlib.Core.Bool.{Bool, true, false, not, _&&_, _||_, true≢false}
+use mathlib.Core.Bool.{Bool, true, false, not, cond, _&&_, _||_, true≢false}
 
 pub and-left : (p q : Bool) → (p && q) ≡ true → p ≡ true
 and-left true q e = refl
@@ -55,3 +55,8 @@ or-either false q e = inr e
 -- no test both holds and fails
 pub never : {p : Bool} → p ≡ true → p ≡ false → ⊥
 never e f = true≢false (sym e ∙ f)
+
+-- what holds of both answers to a test holds of what it chooses
+pub by-test : {A : Type 0} (P : A → Type 0) (b : Bool) {x y : A} → (b ≡ true → P x) → (b ≡ false → P y) → P (cond b x y)
+by-test P true f g = f refl
+by-test P false f g = g refl
