@@ -10,7 +10,7 @@ use borrow.Author.Tests.{leb-false, not-false}
 use Rattle.numbers.specs.declared.Principal.{Principal}
 use Rattle.numbers.specs.declared.Tag.{Tag}
 use Rattle.numbers.specs.Numbers.{mostPrincipals, mostTags, linkPlaces}
-use Rattle.numbers.proofs.Bools.{and-left, and-right}
+use Rattle.numbers.proofs.Bools.{and-left, and-right, by-test}
 use Rattle.links.specs.declared.lists.Found.{Found}
 use Rattle.links.specs.declared.lists.Found.the-variants.{At, Nothing}
 use Rattle.links.specs.declared.lists.Graph.the-variants.{Principals, OfTag}
@@ -30,7 +30,6 @@ use Rattle.outcomes.specs.declared.ListChange.{ListChange}
 use Rattle.outcomes.specs.declared.ListChange.the-variants as list
 use Rattle.outcomes.specs.Outcomes.{refused, done, linksChanged, grantsChanged}
 use Rattle.decide_authority.specs.Authority.{isPublic, removal, toldBool, caller, principalAdded, newPrincipal, callerActsFor, delegate, revoke, tellsActsFor, tagAdded, tagIfRoom, newTag, newSubtag, counted, grant, ungrant, decideAuthority}
-use Rattle.decide.proofs.ByTest.{by-test}
 
 -- a removal is of what was found, if anything was
 by-found :

@@ -1,4 +1,3 @@
-pub mod ByTest
 pub mod AuthorityComes
 pub mod ThreadComes
 pub mod ObjectComes

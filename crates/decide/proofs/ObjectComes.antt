@@ -9,7 +9,7 @@ use Rattle.numbers.specs.declared.Object.{Object}
 use Rattle.numbers.specs.declared.flow.LabelPair.{LabelPair}
 use Rattle.numbers.specs.Labels.{namesOnlyMade}
 use Rattle.numbers.specs.Numbers.{mostObjects, mostQueued}
-use Rattle.numbers.proofs.Bools.{and-left, and-right}
+use Rattle.numbers.proofs.Bools.{and-left, and-right, by-test}
 use Rattle.store.specs.Store.{placeAt}
 use Rattle.tables.specs.Things.{noObject}
 use Rattle.tables.specs.Free.{isFree}
@@ -29,7 +29,6 @@ use Rattle.outcomes.specs.declared.StoreChange.the-variants as store
 use Rattle.outcomes.specs.declared.RowChange.the-variants as rows
 use Rattle.outcomes.specs.Outcomes.{rowsChanged, refused}
 use Rattle.decide_objects.specs.Objects.{objectChanged, emptyOf, heldIn, isLocked, nowIs, newObject, put, get, lock, decideObject}
-use Rattle.decide.proofs.ByTest.{by-test}
 
 -- what is a cell is nothing else
 is-cell : (w : What) → isCell w ≡ true → w ≡ what.Cell

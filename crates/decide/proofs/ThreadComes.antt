@@ -11,6 +11,7 @@ use Rattle.numbers.specs.declared.Tag.{Tag}
 use Rattle.numbers.specs.declared.flow.LabelPair.{LabelPair}
 use Rattle.numbers.specs.Labels.{has, withTag, withoutTag}
 use Rattle.numbers.specs.Numbers.{mostThreads, mostPutAside}
+use Rattle.numbers.proofs.Bools.{by-test}
 use Rattle.frames.specs.declared.requests.ThreadRequest.{ThreadRequest}
 use Rattle.frames.specs.declared.requests.ThreadRequest.the-variants.{IntoSecrecy, OutOfSecrecy, IntoIntegrity, OutOfIntegrity, Fork, End, Call, Return}
 use Rattle.answers.specs.declared.Answer.the-variants.{Done, Value}
@@ -23,7 +24,6 @@ use Rattle.outcomes.specs.declared.RowChange.the-variants as rows
 use Rattle.outcomes.specs.Outcomes.{rowsChanged, refused, done}
 use Rattle.decide_authority.specs.Authority.{callerActsFor}
 use Rattle.decide_threads.specs.Threads.{withLabels, outOfSecrecy, intoIntegrity, returned, fork, call, decideThread}
-use Rattle.decide.proofs.ByTest.{by-test}
 
 module _ (s : Sight) (l : List ℕ) (allowed : Bool) where
   -- the caller's labels
