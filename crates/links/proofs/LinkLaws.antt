@@ -8,7 +8,7 @@ use native.Mathlib.Nat.{le-of-suc-le-suc, not-suc-le-zero}
 use native.Mathlib.Numerals.{add-one}
 use native.Mathlib.Omega.{arith}
 use borrow.Author.Tests.{eq-eqb, ne-eqb, leb-true, leb-false, ltb-true, le-leb, lt-ltb}
-use lib.Dec.{ltb, leb}
+use lib.Dec.{eqb, ltb, leb}
 use lib.ListN.{length, getD, take, drop, length-take, drop-of-length-le}
 use lib.Seq.{take-all, take-length, drop-cons, getD-take}
 use Rattle.numbers.proofs.Bools.{and-left, and-right, and-both, either, never}
@@ -16,7 +16,7 @@ use Rattle.links.specs.Paths.{Link, joins}
 use Rattle.links.specs.declared.lists.Found.the-variants.{At, Nothing}
 use Rattle.links.specs.declared.lists.Graph.{Graph}
 use Rattle.links.specs.declared.lists.Graph.the-variants.{Principals, OfTag}
-use Rattle.links.specs.Links.{isLinkOf, linksFrom, baseOf, linksIn, findFrom}
+use Rattle.links.specs.Links.{isLinkOf, linksFrom, baseOf, linksIn, findFrom, findIn}
 use Rattle.links.proofs.PathLaws.{joins-head, joins-tail, joins-cases}
 
 -- the number x is the link from p to q of the graph with this base
@@ -142,3 +142,17 @@ module _ (l : List ℕ) (n x i : ℕ) where
   pub find-end : min n (length l) ≤ i → findFrom i (drop i (take n l)) x ≡ Nothing
   unfolding findFrom
   find-end h = ap (λ (xs : List ℕ). findFrom i xs x) (drop-of-length-le (take n l) {i = i} (omega (arith, length-take n l)))
+
+-- what is found is among the places searched
+found-among : (i : ℕ) (ys : List ℕ) (x j : ℕ) → findFrom i ys x ≡ At j → j < i + length ys
+unfolding findFrom
+found-among i [] x j e = absurd (let z : _≡_ {A = ℕ} 0 1 = cc in omega arith)
+found-among i (y ∷ ys) x j e =
+    ⊎-elim
+    (λ t. let z : i ≡ j = cc in omega arith)
+    (λ t. omega (arith, found-among (suc i) ys x j (rw t at e)))
+    (either (eqb y x))
+
+-- so it is at one of the places in use
+pub found-used : (l : List ℕ) (n x i : ℕ) → findIn (take n l) x ≡ At i → i < n
+found-used l n x i e = omega (arith, found-among 0 (take n l) x i e, length-take n l)

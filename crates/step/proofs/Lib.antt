@@ -1,1 +1,3 @@
 pub mod Considering
+pub mod Ind
+pub mod Room
