@@ -39,12 +39,7 @@ pub fn request(
     let t = s.tables;
     let m = s.memory;
     if !break_no_rule(t, m, links, grants, store) {
-        write(
-            Answer::Refused(Refusal::BrokenRule),
-            frame,
-            store,
-            answer,
-        );
+        write(Answer::Refused(Refusal::BrokenRule), frame, store, answer);
         return Replied {
             status: 9,
             written: 1,

@@ -68,10 +68,22 @@ fn follow_row<'a>(
         let caller = s.caller;
         let p = caller.principal;
         let lineage = s.lineage;
-        let asked = memory::ask(m, links, s.links, grants, s.grants, lineage, p, tag_named(r));
+        let asked = memory::ask(
+            m,
+            links,
+            s.links,
+            grants,
+            s.grants,
+            lineage,
+            p,
+            tag_named(r),
+        );
         let outcome = decide(s, links, grants, r, asked.yes);
         let after = asked.memory;
-        return Considered { outcome, memory: after };
+        return Considered {
+            outcome,
+            memory: after,
+        };
     }
     let outcome = decide(s, links, grants, r, false);
     Considered { outcome, memory: m }

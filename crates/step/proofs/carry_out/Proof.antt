@@ -29,8 +29,8 @@ carry-out-spec =
     (λ c. search needs)
     (λ c. search needs)
     (λ c.
-      let a = c .before .before .before .before .before .before .before .before .before .before .before .before .before .before .before .before .before .before .before .before .before .args in
-      let rows = c .before .before .before .before .before .before .before .before .before .before .before .before .before .before .before .apply-rows .ensures ∙ ap (λ (n : ℕ). applyRows (a .t) n (a .o .rows)) (c .before .before .before .before .before .before .before .before .before .before .before .before .before .before .before .before .byte-at .ensures) in (
-        c .with-counts .ensures ∙ counts-same rows (c .before .before .count-after .ensures) (c .before .count-after2 .ensures),
-        (c .before .before .before .before .before .before .before .before .before .before .before .before .before .apply-list .ensures, (c .before .before .before .before .before .before .before .before .before .apply-list2 .ensures, c .before .before .before .before .before .apply-store .ensures)),
-      )))
+    let a = c .before .before .before .before .before .before .before .before .before .before .before .before .before .before .before .before .before .before .before .before .before .args in
+    let rows = c .before .before .before .before .before .before .before .before .before .before .before .before .before .before .before .apply-rows .ensures ∙ ap (λ (n : ℕ). applyRows (a .t) n (a .o .rows)) (c .before .before .before .before .before .before .before .before .before .before .before .before .before .before .before .before .byte-at .ensures) in (
+      c .with-counts .ensures ∙ counts-same rows (c .before .before .count-after .ensures) (c .before .count-after2 .ensures),
+      (c .before .before .before .before .before .before .before .before .before .before .before .before .before .apply-list .ensures, (c .before .before .before .before .before .before .before .before .before .apply-list2 .ensures, c .before .before .before .before .before .apply-store .ensures)),
+    )))
