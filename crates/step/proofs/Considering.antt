@@ -1,8 +1,9 @@
 -- What a request comes to, by the tests it meets: refused 1; stopped by 2, 3 or 4; or its kind's row is followed. Assumes nothing.
-use mathlib.Core.Path.{_≡_, sym, refl, ap, _∙_}
-use mathlib.Core.Bool.{Bool, true, false, not}
+use mathlib.Core.Path.{_≡_, ap, _∙_}
+use mathlib.Core.Bool.{true, false, not}
 use mathlib.Core.List.{List}
 use Prim.Native.Nat.{ℕ}
+use borrow.Author.Tests.{not-true, not-false}
 use Rattle.answers.specs.declared.Refusal.{Refusal}
 use Rattle.answers.specs.declared.Refusal.the-variants.{Malformed}
 use Rattle.frames.specs.declared.requests.Request.{Request}
@@ -16,15 +17,6 @@ use Rattle.tables.specs.declared.Tables.{Tables}
 use Rattle.step.specs.declared.Considered.{Considered}
 use Rattle.step.specs.Step.{seen, checked, outcome, considered, rowFollowed}
 
--- where a test failed or held, so did what it negates
-well : (b : Bool) → not b ≡ false → b ≡ true
-well true e = refl
-well false e = sym e
-
-ill : (b : Bool) → not b ≡ true → b ≡ false
-ill true e = sym e
-ill false e = refl
-
 -- what was read from the frame and the tables, a piece at a time, is what the request sees
 pub as-seen :
     {A : Type 0} (t : Tables) (l g f : List ℕ) (P : Sight → ℕ → Request → A) {r : Request} {n k : ℕ} {s : Sight} →
@@ -37,16 +29,16 @@ module _ (t : Tables) (l g f : List ℕ) (m : Memory) {r : Considered} where
   -- refused 1
   pub when-ill-formed : not (wellFormed f) ≡ true → r ≡ record { outcome = refused Malformed; memory = m } → r ≡ considered t l g f m
   unfolding outcome
-  when-ill-formed e q = rw (ill (wellFormed f) e) q
+  when-ill-formed e q = rw (not-true (wellFormed f) e) q
 
   -- stopped by 2, 3 or 4
   pub when-stopped :
       (x : Refusal) → not (wellFormed f) ≡ false → checked t l g f ≡ Stopped x → r ≡ record { outcome = refused x; memory = m } → r ≡ considered t l g f m
   unfolding outcome
-  when-stopped x e s q = rw (well (wellFormed f) e) (rw s q)
+  when-stopped x e s q = rw (not-false (wellFormed f) e) (rw s q)
 
   -- its kind's row is followed
   pub when-passed :
       not (wellFormed f) ≡ false → checked t l g f ≡ Passed → r ≡ rowFollowed (seen t l g f) l g (requestOf f) m → r ≡ considered t l g f m
   unfolding outcome
-  when-passed e s q = rw (well (wellFormed f) e) (rw s q)
+  when-passed e s q = rw (not-false (wellFormed f) e) (rw s q)
