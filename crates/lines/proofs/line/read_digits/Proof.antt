@@ -1,0 +1,74 @@
+-- `lines::line::read_digits` meets its contract: the loop has read the pairs of digits passed. Assumes nothing.
+use mathlib.Core.Path.{_≡_, refl, sym, ap, _∙_}
+use mathlib.Core.List.{List}
+use Prim.Native.Nat.{ℕ, _+_, _-_, _/_, _%_, _≤_, _<_}
+use native.Mathlib.Nat.{zero-add}
+use native.Mathlib.Omega.{arith}
+use borrow.Author.Needs.{needs}
+use lib.ListN.{length, getD, set, take, length-set}
+use lib.Seq.{length-take-le, take-all}
+use Rattle.store.specs.Store.{over}
+use Rattle.store.proofs.Over.{over-next}
+use Rattle.lines.specs.Lines.{byteOf, frameOf, allDigits}
+use Rattle.lines.proofs.LineLaws.{frame-length, frame-next, digits-next}
+use Rattle.lines.proofs.line.read_digits.Statement.{statement}
+use Rattle.lines.proofs.line.read_digits.Tie as tie
+
+abbrev Inv-loop : tie.InvT-loop
+Inv-loop line frame₀ ok₀ i₀ frame ok i =
+    (i % 2 ≡ 0) × (i ≤ length line) × (length frame ≡ length frame₀) × (ok ≡ allDigits (take i line)) × (frame ≡ over frame₀ 0 (frameOf (take i line)))
+
+abbrev μ-loop : tie.MeasureT-loop
+μ-loop line frame₀ ok₀ i₀ frame ok i = length line - i
+
+-- one pair of digits more
+turn :
+    (s z : List ℕ) (i : ℕ) → i + 1 < length z → i % 2 ≡ 0 → length z ≤ length s + length s
+    → set (over s 0 (frameOf (take i z))) (i / 2) (byteOf (getD z i 0) (getD z (i + 1) 0)) ≡ over s 0 (frameOf (take (i + 2) z))
+turn s z i h e r =
+    let l : length (frameOf (take i z)) ≡ i / 2 = frame-length (take i z) ∙ ap (λ (n : ℕ). n / 2) (length-take-le i z (omega arith)) in
+    rw (zero-add (i / 2)) at (over-next s 0 (frameOf (take i z)) (i / 2) (byteOf (getD z i 0) (getD z (i + 1) 0)) l (omega arith))
+    ∙ ap (over s 0) (sym (frame-next z i h e))
+
+pub read-digits-spec : {M : Type 1} → statement M
+unfolding allDigits frameOf
+read-digits-spec =
+    tie.close
+    (tie.spec
+    Inv-loop
+    μ-loop
+    (λ c. (omega arith, omega arith, refl, refl, refl))
+    (λ c. omega arith)
+    (λ c κs. search needs)
+    (λ c. omega arith)
+    (λ c. omega arith)
+    (λ c κs. search needs)
+    (λ c. omega arith)
+    (λ c. omega arith)
+    (λ c. omega arith)
+    (λ c. omega arith)
+    (λ c. omega arith)
+    (λ c. omega arith)
+    (λ c. omega arith)
+    (λ c. omega arith)
+    (λ c.
+    let at = c .before .before .before .before .before in
+    let a = at .before .before .before .args in
+    let z = a .line .now in
+    let i = at .loop .i in
+    let inv = at .loop .inv in
+    let high = c .before .before .digit-of .ensures in
+    let low = c .digit-of2 .ensures in
+    let more : i + 1 < length z = omega arith in (
+      omega arith,
+      omega arith,
+      simp length-set (inv .2),
+      rw (high, low, inv .3) (sym (digits-next z i more)),
+      rw (high, low, inv .4) (turn (a .frame .now) z i more (inv .0) (omega arith)),
+    ))
+    (λ c. c .before .loop .inv .2)
+    (λ c.
+    let a = c .before .before .before .before .args in
+    let inv = c .before .loop .inv in
+    let all : take (c .before .loop .i) (a .line .now) ≡ a .line .now = take-all (c .before .loop .i) (a .line .now) (omega arith) in
+    (inv .3 ∙ ap allDigits all, inv .4 ∙ ap (λ (z : List ℕ). over (a .frame .now) 0 (frameOf z)) all)))
