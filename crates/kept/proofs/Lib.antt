@@ -1,0 +1,4 @@
+pub mod LinksKept
+pub mod RowsKept
+pub mod ObjectsKept
+pub mod MemoryKept

@@ -1,0 +1,1 @@
+-- LinksKept. Assumes nothing.

@@ -1,0 +1,1 @@
+-- MemoryKept. Assumes nothing.

@@ -1,0 +1,1 @@
+-- ObjectsKept. Assumes nothing.

@@ -1,0 +1,1 @@
+-- RowsKept. Assumes nothing.
