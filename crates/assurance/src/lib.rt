@@ -1,0 +1,1 @@
+// No code: the user's three demands as theorems (specs/ has the statements, proofs/ the proofs).
