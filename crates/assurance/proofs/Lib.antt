@@ -1,0 +1,3 @@
+pub mod Sound
+pub mod Questions
+pub mod Reference
