@@ -1,3 +1,4 @@
 pub mod Sound
 pub mod Questions
 pub mod Reference
+pub mod Worlds
