@@ -1,4 +1,5 @@
 pub mod LinksKept
-pub mod RowsKept
+pub mod TagsKept
+pub mod ThreadsKept
 pub mod ObjectsKept
 pub mod MemoryKept

@@ -1,1 +1,0 @@
--- RowsKept. Assumes nothing.

@@ -1,0 +1,75 @@
+-- The rows of tags that obey their rules of 9 still do when a principal or a tag more is made. Assumes nothing.
+use mathlib.Core.Path.{_≡_, refl}
+use mathlib.Core.Bool.{true}
+use mathlib.Core.List.{List}
+use mathlib.Core.Logic.{⊎-elim}
+use Prim.Native.Nat.{ℕ, _+_, _≤_, _<_}
+use native.Mathlib.Nat.{eq-or-lt-of-le}
+use native.Mathlib.Omega.{arith}
+use borrow.Author.Tests.{ltb-true, lt-ltb}
+use lib.ListN.{length, set}
+use lib.Seq.{getD-set-same, getD-set-other}
+use Rattle.numbers.specs.Numbers.{public, mostTags}
+use Rattle.numbers.proofs.Bools.{and-left}
+use Rattle.tables.specs.declared.rows.TagRow.{TagRow}
+use Rattle.tables.specs.declared.rows.Rank.{Rank}
+use Rattle.tables.specs.declared.rows.Rank.the-variants.{Supertag, SubtagOf}
+use Rattle.tables.specs.Things.{noTag, tagAt}
+use Rattle.row_rules.specs.RowRules.{supertagMade, rankHolds}
+use Rattle.row_rules.proofs.RuleLaws.{TagsHold}
+
+-- more principals are made
+pub tags-more :
+    {principals principals2 tags : ℕ} {rows : List TagRow} → TagsHold principals tags rows → principals ≤ principals2 → TagsHold principals2 tags rows
+tags-more w h =
+    record {
+      limit = w .limit;
+      roots = λ i l. omega (arith, w .roots i l);
+      supertags = w .supertags;
+      public-roots = w .public-roots;
+      ranks = w .ranks;
+      unused = w .unused;
+    }
+
+-- the supertag of tag i is an earlier tag, and so made where i is at most the count
+rank-made : (rows : List TagRow) (i n : ℕ) (k : Rank) → i ≤ n → rankHolds rows i k ≡ true → supertagMade n k ≡ true
+rank-made rows i n Supertag h e = refl
+rank-made rows i n (SubtagOf t) h e = let low : t .0 < i = ltb-true _ _ (and-left _ _ e) in lt-ltb (t .0) n (omega arith)
+
+module _ (tags : ℕ) (rows : List TagRow) (row : TagRow) where
+  -- a new row at `tags` leaves the ranks of the tags up to it as they were
+  rank-kept : (i : ℕ) (k : Rank) → i ≤ tags → rankHolds rows i k ≡ true → rankHolds (set rows tags row) i k ≡ true
+  rank-kept i Supertag h e = refl
+  rank-kept i (SubtagOf t) h e =
+      let low : t .0 < i = ltb-true _ _ (and-left _ _ e) in rw (getD-set-other rows tags (t .0) row noTag (λ q. omega arith)) e
+
+  -- what holds of the new row and of each before it holds of each row up to the new one
+  tags-each :
+      (P : ℕ → TagRow → Type 0) → tags < length rows → P tags row → ((i : ℕ) → i < tags → P i (tagAt rows i)) → (i : ℕ) → i < tags + 1
+      → P i (tagAt (set rows tags row) i)
+  tags-each P room new old i h =
+      ⊎-elim
+      (λ (q : i ≡ tags). rw (q, getD-set-same rows tags row noTag) new)
+      (λ (l : i < tags). rw (getD-set-other rows tags i row noTag (λ q. omega arith)) (old i l))
+      (eq-or-lt-of-le (omega arith))
+
+-- 05, 06: a tag more, at the next number
+pub tag-added :
+    {principals tags : ℕ} {rows : List TagRow} (row : TagRow) → TagsHold principals tags rows → length rows ≡ mostTags → tags < mostTags
+    → row .root .0 < principals → (row .root .0 ≡ public → ⊥) → rankHolds rows tags (row .rank) ≡ true
+    → TagsHold principals (tags + 1) (set rows tags row)
+tag-added {principals} {tags} {rows} row w long room root not-public rank =
+    let each =
+    tags-each tags rows row
+    (λ i r. (r .root .0 < principals) × (r .root .0 ≡ public → ⊥) × (rankHolds (set rows tags row) i (r .rank) ≡ true))
+    (omega arith)
+    (root, not-public, rank-kept tags rows row tags (row .rank) (omega arith) rank)
+    (λ i l. (w .roots i l, w .public-roots i l, rank-kept tags rows row i (tagAt rows i .rank) (omega arith) (w .ranks i l))) in
+    record {
+      limit = omega arith;
+      roots = λ i l. each i l .0;
+      supertags = λ i l. rank-made (set rows tags row) i (tags + 1) (tagAt (set rows tags row) i .rank) (omega arith) (each i l .2);
+      public-roots = λ i l. each i l .1;
+      ranks = λ i l. each i l .2;
+      unused = λ i l m. rw (getD-set-other rows tags i row noTag (λ q. omega arith)) (w .unused i (omega arith) m);
+    }
