@@ -2,3 +2,4 @@ pub mod Sound
 pub mod Questions
 pub mod Reference
 pub mod Worlds
+pub mod ThreadsKeep
