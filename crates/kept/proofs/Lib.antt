@@ -2,4 +2,5 @@ pub mod LinksKept
 pub mod TagsKept
 pub mod ThreadsKept
 pub mod ObjectsKept
+pub mod StoreKept
 pub mod MemoryKept

@@ -1,1 +1,68 @@
--- ObjectsKept. Assumes nothing.
+-- The rows of objects obey their rules of 9 after each change that a request makes. Assumes nothing.
+use mathlib.Core.Path.{_≡_, ap}
+use mathlib.Core.Bool.{true, false, not, _||_}
+use mathlib.Core.List.{List, [], _∷_}
+use Prim.Native.Nat.{ℕ, zero, suc, _≤_, _<_}
+use lib.ListN.{set}
+use Rattle.numbers.specs.declared.flow.LabelPair.{LabelPair}
+use Rattle.numbers.specs.Labels.{namesOnlyMade}
+use Rattle.numbers.specs.Numbers.{mostObjects}
+use Rattle.numbers.proofs.Bools.{and-left, and-right, and-both, or-left, or-right, or-elim, never}
+use Rattle.numbers.proofs.LabelLaws.{made-more}
+use Rattle.tables.specs.Things.{objectAt}
+use Rattle.tables.specs.Free.{isFree}
+use Rattle.tables.specs.declared.rows.ObjectRow.{ObjectRow}
+use Rattle.tables.specs.declared.rows.What.{What}
+use Rattle.row_rules.specs.RowRules.{labelsMade, labelsEmpty, whatInLimits, objectMade, objectUnused}
+use Rattle.row_rules.proofs.RuleLaws.{ObjectsHold}
+
+-- labels of made tags stay so when tags are made
+labels-more : {tags tags2 : ℕ} (l : LabelPair) → tags ≤ tags2 → labelsMade tags l ≡ true → labelsMade tags2 l ≡ true
+labels-more {tags} {tags2} l h e =
+    let a = namesOnlyMade (l .secrecy) in
+    let b = namesOnlyMade (l .integrity) in
+    and-both (a tags2) (b tags2)
+    (made-more (l .secrecy) tags tags2 h (and-left (a tags) (b tags) e))
+    (made-more (l .integrity) tags tags2 h (and-right (a tags) (b tags) e))
+
+-- what holds of every row and of the row that is put holds of every row after
+set-keeps : (P : ObjectRow → Type 0) (rows : List ObjectRow) (o n : ℕ) (r : ObjectRow) → P r → P (objectAt rows n) → P (objectAt (set rows o r) n)
+set-keeps P [] o n r new old = old
+set-keeps P (x ∷ rows) zero zero r new old = new
+set-keeps P (x ∷ rows) zero (suc n) r new old = old
+set-keeps P (x ∷ rows) (suc o) zero r new old = old
+set-keeps P (x ∷ rows) (suc o) (suc n) r new old = set-keeps P rows o n r new old
+
+module _ {tags : ℕ} {rows : List ObjectRow} (holds : ObjectsHold tags rows) where
+  -- tags are made
+  pub objects-more : {tags2 : ℕ} → tags ≤ tags2 → ObjectsHold tags2 rows
+  objects-more {tags2} h =
+      record {
+        limits = holds .limits;
+        made = λ o low.
+            let r = objectAt rows o in
+            let now = labelsMade tags2 (r .labels) in
+            or-elim (isFree (r .what)) (labelsMade tags (r .labels)) (isFree (r .what) || now) (holds .made o low)
+            (or-left (isFree (r .what)) now) (λ e. or-right (isFree (r .what)) now (labels-more (r .labels) h e));
+        unused = holds .unused;
+      }
+
+  -- a row is put that obeys the rules
+  pub object-set :
+      (o : ℕ) (r : ObjectRow) → whatInLimits (r .what) ≡ true → objectMade tags r ≡ true → objectUnused r ≡ true → ObjectsHold tags (set rows o r)
+  object-set o r limit made unused =
+      record {
+        limits = λ n low. set-keeps (λ x. whatInLimits (x .what) ≡ true) rows o n r limit (holds .limits n low);
+        made = λ n low. set-keeps (λ x. objectMade tags x ≡ true) rows o n r made (holds .made n low);
+        unused = λ n low. set-keeps (λ x. objectUnused x ≡ true) rows o n r unused (holds .unused n low);
+      }
+
+  -- an object in use becomes another thing in use, and keeps its labels
+  pub object-changed :
+      {o : ℕ} (x : What) → o < mostObjects → isFree (objectAt rows o .what) ≡ false → isFree x ≡ false → whatInLimits x ≡ true
+      → ObjectsHold tags (set rows o (record { what = x; labels = objectAt rows o .labels }))
+  object-changed {o} x low was now limit =
+      let l = objectAt rows o .labels in
+      let made = or-elim (isFree (objectAt rows o .what)) (labelsMade tags l) (labelsMade tags l) (holds .made o low) (λ e. absurd (never e was)) (λ e. e) in
+      object-set o (record { what = x; labels = l }) limit (or-right (isFree x) (labelsMade tags l) made)
+      (or-left (not (isFree x)) (labelsEmpty l) (ap not now))
