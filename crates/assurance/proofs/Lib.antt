@@ -3,3 +3,4 @@ pub mod Questions
 pub mod Reference
 pub mod Worlds
 pub mod ThreadsKeep
+pub mod AuthorityKeep
