@@ -4,3 +4,4 @@ pub mod Reference
 pub mod Worlds
 pub mod ThreadsKeep
 pub mod AuthorityKeep
+pub mod ObjectsKeep

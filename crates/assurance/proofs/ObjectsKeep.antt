@@ -1,0 +1,145 @@
+-- Kinds 12 to 19 keep the rules of the world. Assumes nothing.
+use mathlib.Core.Path.{_≡_, refl}
+use mathlib.Core.Bool.{Bool, true, false, not, _||_}
+use mathlib.Core.List.{List}
+use Prim.Native.Nat.{ℕ, _+_, _-_, _≤_, _<_}
+use native.Mathlib.Omega.{arith}
+use borrow.Author.Tests.{le-leb, leb-true}
+use lib.ListN.{length, set}
+use Rattle.numbers.specs.Numbers.{mostObjects, mostQueued, longestMessage}
+use Rattle.numbers.specs.declared.Object.{Object}
+use Rattle.numbers.specs.declared.flow.LabelPair.{LabelPair}
+use Rattle.store.specs.Store.{storeSize, objectSize, placeAt, put, tookFirst, cleared}
+use Rattle.store.proofs.Over.{part-length}
+use Rattle.tables.specs.declared.rows.ObjectRow.{ObjectRow}
+use Rattle.tables.specs.declared.rows.What.{What}
+use Rattle.tables.specs.declared.rows.What.the-variants as what
+use Rattle.tables.specs.Things.{noObject, objectAt}
+use Rattle.tables.specs.Free.{isFree, freeObject}
+use Rattle.tables.proofs.Among.{used-among}
+use Rattle.tables.proofs.First.{first-is}
+use Rattle.frames.specs.Requests.{threadOf}
+use Rattle.frames.specs.declared.requests.Span.{Span}
+use Rattle.frames.specs.declared.requests.ObjectKind.{ObjectKind}
+use Rattle.frames.specs.declared.requests.ObjectKind.the-variants as kind
+use Rattle.frames.specs.declared.requests.ObjectRequest.{ObjectRequest}
+use Rattle.frames.specs.declared.requests.Request.the-variants.{OfObject}
+use Rattle.frames.proofs.Spans.{SpanFits, ObjectSpans}
+use Rattle.answers.specs.Answers.{givenBy}
+use Rattle.sight.specs.Sight.{sightOf}
+use Rattle.outcomes.specs.declared.Outcome.{Outcome}
+use Rattle.row_rules.specs.RowRules.{labelsMade, whatInLimits, objectMade, objectUnused}
+use Rattle.row_rules.proofs.RuleLaws.{ObjectsHold}
+use Rattle.store_rules.proofs.RuleLaws.{StoreHolds}
+use Rattle.decide_objects.specs.Objects.{emptyOf}
+use Rattle.decide.proofs.ObjectComes as comes
+use Rattle.apply.specs.Apply.{withObject}
+use Rattle.step.specs.World.{World, worldOf, applied}
+use Rattle.kept.proofs.ObjectsKept.{object-set, object-changed}
+use Rattle.kept.proofs.StoreKept.{store-new, store-freed, store-written, store-put, store-taken, store-locked, store-whole-put, store-whole-taken, store-whole-freed}
+use Rattle.kept.proofs.ThreadsKept.{labels-are}
+use Rattle.assurance.proofs.Worlds.{WorldHolds, SizedWorld}
+
+-- a new object is within its limits, and is in use
+new-fits : (k : ObjectKind) → whatInLimits (emptyOf k) ≡ true
+new-fits kind.Cell = refl
+new-fits kind.Queue = refl
+new-fits kind.Lock = refl
+
+new-used : (k : ObjectKind) → isFree (emptyOf k) ≡ false
+new-used kind.Cell = refl
+new-used kind.Queue = refl
+new-used kind.Lock = refl
+
+-- the message of a frame is no longer than a message may be
+message-short : (f : List ℕ) (m : Span) → SpanFits f m → length (givenBy f m) ≤ longestMessage
+message-short f m fits = omega (arith, part-length f (m .at) (m .len) (fits .there), fits .short)
+
+module _ (w : World) (holds : WorldHolds w) (sized : SizedWorld w) (f : List ℕ) where
+  abbrev rows : List ObjectRow
+  rows = w .tables .objects
+
+  abbrev s : List ℕ
+  s = w .store
+
+  -- an object in use is one of the 64
+  in-use : (o : Object) (x : What) → objectAt rows (o .0) .what ≡ x → isFree x ≡ false → o .0 < mostObjects
+  in-use o x e used = omega (arith, used-among rows (o .0) (rw e used), sized .objects)
+
+  -- the rows of objects and the store change; the rest stays
+  objects-changed :
+      (o : ℕ) (r : ObjectRow) (b : List ℕ) → ObjectsHold (w .tables .tags) (set rows o r) → length b ≡ storeSize → StoreHolds b (set rows o r) →
+      WorldHolds (worldOf (withObject (w .tables) o r) (w .links) (w .grants) b)
+  objects-changed o r b objects whole store =
+      record {
+        links = holds .links;
+        grants = holds .grants;
+        two = holds .two;
+        links-unused = holds .links-unused;
+        grants-unused = holds .grants-unused;
+        tags = holds .tags;
+        threads = holds .threads;
+        objects = objects;
+        whole = whole;
+        store = store;
+      }
+
+  -- only the store changes
+  store-changed : (b : List ℕ) → length b ≡ storeSize → StoreHolds b rows → WorldHolds (worldOf (w .tables) (w .links) (w .grants) b)
+  store-changed b whole store =
+      record {
+        links = holds .links;
+        grants = holds .grants;
+        two = holds .two;
+        links-unused = holds .links-unused;
+        grants-unused = holds .grants-unused;
+        tags = holds .tags;
+        threads = holds .threads;
+        objects = holds .objects;
+        whole = whole;
+        store = store;
+      }
+
+  -- 12
+  object-made :
+      (k : ObjectKind) (l : LabelPair) → labelsMade (w .tables .tags) l ≡ true → freeObject rows < mostObjects →
+      WorldHolds (worldOf (withObject (w .tables) (freeObject rows) (record { what = emptyOf k; labels = l })) (w .links) (w .grants) s)
+  object-made k l made room =
+      let r : ObjectRow = record { what = emptyOf k; labels = l } in
+      let free = first-is (λ (x : ObjectRow). isFree (x .what)) noObject rows (omega (arith, room, sized .objects)) in
+      objects-changed (freeObject rows) r s
+      (object-set (holds .objects) (freeObject rows) r (new-fits k) (rw (new-used k) made) (rw (new-used k) refl))
+      (holds .whole)
+      (store-new (sized .objects) (holds .whole) (holds .store) room (emptyOf k) l free)
+
+  pub object-keeps : {r : ObjectRequest} {o : Outcome} → ObjectSpans f r → comes.ObjectComes (sightOf (w .tables) (threadOf f) (OfObject r)) r o → WorldHolds (applied w f o)
+  object-keeps m (comes.stops x) = holds
+  object-keeps m (comes.makes {k} {l} a b free) = object-made k l (labels-are (w .tables .tags) l .1 (a, b)) free
+  object-keeps m (comes.deletes {o} used) =
+      let low = in-use o _ refl used in
+      objects-changed (o .0) noObject _ (object-set (holds .objects) (o .0) noObject refl refl refl) (store-whole-freed s (holds .whole) low) (store-freed (sized .objects) (holds .whole) (holds .store) low)
+  object-keeps m (comes.reads e) = holds
+  object-keeps m (comes.writes {o} {p} e) =
+      let low = in-use o what.Cell e refl in
+      let short = message-short f p m in
+      store-changed _ (store-whole-put s (holds .whole) low (givenBy f p) (omega arith) short) (store-written (sized .objects) (holds .whole) (holds .store) low (givenBy f p) e short)
+  object-keeps m (comes.puts {o} {p} held e room) =
+      let low = in-use o (what.Queue held) e refl in
+      let short = message-short f p m in
+      objects-changed (o .0) _ _
+      (object-changed (holds .objects) (what.Queue (held + 1)) low (rw e refl) refl (le-leb (held + 1) mostQueued (omega (arith, room))))
+      (store-whole-put s (holds .whole) low (givenBy f p) room short)
+      (store-put (sized .objects) (holds .whole) (holds .store) low (givenBy f p) (objectAt rows (o .0) .labels) e room short)
+  object-keeps m (comes.gets {o} held e some) =
+      let low = in-use o (what.Queue held) e refl in
+      let fits = leb-true held mostQueued (rw e at (holds .objects .limits (o .0) low)) in
+      objects-changed (o .0) _ _
+      (object-changed (holds .objects) (what.Queue (held - 1)) low (rw e refl) refl (le-leb (held - 1) mostQueued (omega (arith, fits))))
+      (store-whole-taken s (holds .whole) low)
+      (store-taken (sized .objects) (holds .whole) (holds .store) low (objectAt rows (o .0) .labels) e fits)
+  object-keeps m (comes.locks {o} e) =
+      let low = in-use o (what.Lock false) e refl in
+      objects-changed (o .0) _ s (object-changed (holds .objects) (what.Lock true) low (rw e refl) refl refl) (holds .whole) (store-locked (sized .objects) (holds .whole) (holds .store) low true (objectAt rows (o .0) .labels) e)
+  object-keeps m (comes.unlocks {o} locked e) =
+      let low = in-use o (what.Lock locked) e refl in
+      objects-changed (o .0) _ s (object-changed (holds .objects) (what.Lock false) low (rw e refl) refl refl) (holds .whole) (store-locked (sized .objects) (holds .whole) (holds .store) low false (objectAt rows (o .0) .labels) e)
