@@ -1,18 +1,19 @@
--- The laws of lines: how long a line's frame and the digits of bytes are, and what one pair of digits or one byte more adds to them, as
--- a loop goes on. Assumes nothing.
-use mathlib.Core.Path.{_≡_, refl, ap}
+-- The laws of lines: how long a line's frame and the digits of bytes are, what one pair of digits or one byte more adds to them, as a
+-- loop goes on, and that bytes written as a line are read back. Assumes nothing.
+use mathlib.Core.Path.{_≡_, refl, ap, ap₂}
 use mathlib.Core.Bool.{true, _&&_, and-true, and-assoc}
 use mathlib.Core.List.{List, [], _∷_, _++_, append-assoc}
 use Prim.Native.Nat.{ℕ, suc, _+_, _/_, _%_, _≤_, _<_}
 use native.Mathlib.Numerals.{add-one}
 use native.Mathlib.Omega.{arith}
-use borrow.Author.Tests.{eqb-true, leb-true}
+use borrow.Author.Tests.{eqb-true, leb-true, lt-ltb}
 use lib.Dec.{eqb, ltb, leb}
 use lib.ListN.{length, getD, take}
 use lib.Seq.{length-take-le, take-suc}
 use Rattle.numbers.proofs.Bools.{and-left, and-right}
-use Rattle.lines.specs.Digits.{digitOf, digitsOf}
+use Rattle.lines.specs.Digits.{digitOf, glyphOf, digitsOf}
 use Rattle.lines.specs.Lines.{byteOf, frameOf, allDigits, rightLength, digitsIn}
+use Rattle.lines.proofs.DigitLaws.{digit-glyph, digits-byte}
 
 -- ---- a line that is read
 
@@ -78,3 +79,20 @@ written-append (b ∷ bs) cs = ap (λ (z : List ℕ). digitsOf b .high ∷ digit
 pub written-next : (bs : List ℕ) (i : ℕ) → i < length bs → digitsIn (take (i + 1) bs) ≡ digitsIn (take i bs) ++ (digitsOf (getD bs i 0) .high ∷ digitsOf (getD bs i 0) .low ∷ [])
 unfolding digitsIn
 written-next bs i h = rw (add-one, take-suc bs i 0) (written-append (take i bs) (getD bs i 0 ∷ []))
+
+-- ---- bytes written and read back
+
+-- what was written for a digit is a digit
+digit-written : (v : ℕ) → v < 16 → ltb (digitOf (glyphOf v)) 16 ≡ true
+digit-written v h = lt-ltb (digitOf (glyphOf v)) 16 (rw (digit-glyph v h) h)
+
+-- digits that were written are digits, and the frame that they make is the bytes
+pub read-written : (bs : List ℕ) → ((i : ℕ) → getD bs i 0 < 256) → (allDigits (digitsIn bs) ≡ true) × (frameOf (digitsIn bs) ≡ bs)
+unfolding allDigits frameOf digitsIn
+read-written [] h = (refl, refl)
+read-written (b ∷ bs) h =
+    let byte : b < 256 = h 0 in
+    let rest = read-written bs (λ i. h (suc i)) in (
+      simp (digit-written (b / 16) (omega arith), digit-written (b % 16) (omega arith), rest .0),
+      ap₂ _∷_ (rw (digits-byte b byte) (omega arith)) (rest .1),
+    )

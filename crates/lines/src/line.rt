@@ -23,7 +23,7 @@ pub fn frame_of(line: &[u8], frame: &mut [u8; 36]) -> bool
     ensures { λ _. ⌜ now (frame .exit) ≡ cond (rightLength (now (line .entry))) (over (now (frame .entry)) 0 (frameOf (now (line .entry)))) (now (frame .entry)) ⌝ }
 {
     let n = line.len();
-    if (n % 2 == 0) & ((0 < n) & (n <= LONGEST_LINE)) {
+    if (n % 2 == 0) & ((1 <= n) & (n <= LONGEST_LINE)) {
         read_digits(line, frame)
     } else {
         false

@@ -1,7 +1,7 @@
 -- `lines::line::read_digits` meets its contract: the loop has read the pairs of digits passed. Assumes nothing.
-use mathlib.Core.Path.{_≡_, refl, sym, ap, _∙_}
+use mathlib.Core.Path.{_≡_, refl, sym, ap, ap₂, _∙_}
 use mathlib.Core.List.{List}
-use Prim.Native.Nat.{ℕ, _+_, _-_, _/_, _%_, _≤_, _<_}
+use Prim.Native.Nat.{ℕ, _+_, _*_, _-_, _/_, _%_, _≤_, _<_}
 use native.Mathlib.Nat.{zero-add}
 use native.Mathlib.Omega.{arith}
 use borrow.Author.Needs.{needs}
@@ -64,7 +64,8 @@ read-digits-spec =
       omega arith,
       simp length-set (inv .2),
       rw (high, low, inv .3) (sym (digits-next z i more)),
-      rw (high, low, inv .4) (turn (a .frame .now) z i more (inv .0) (omega arith)),
+      ap₂ (λ (s : List ℕ) (b : ℕ). set s (i / 2) b) (inv .4) (ap₂ (λ (x y : ℕ). (x * 16 + y) % 256) high low)
+          ∙ turn (a .frame .now) z i more (inv .0) (omega arith),
     ))
     (λ c. c .before .loop .inv .2)
     (λ c.
