@@ -106,40 +106,41 @@ module _ (w : World) (holds : WorldHolds w) (sized : SizedWorld w) (f : List ℕ
       WorldHolds (worldOf (withObject (w .tables) (freeObject rows) (record { what = emptyOf k; labels = l })) (w .links) (w .grants) s)
   object-made k l made room =
       let r : ObjectRow = record { what = emptyOf k; labels = l } in
-      let free = first-is (λ (x : ObjectRow). isFree (x .what)) noObject rows (omega (arith, room, sized .objects)) in
+      let free = first-is ObjectRow (λ (x : ObjectRow). isFree (x .what)) noObject rows (omega (arith, room, sized .objects)) in
       objects-changed (freeObject rows) r s
       (object-set (holds .objects) (freeObject rows) r (new-fits k) (rw (new-used k) made) (rw (new-used k) refl))
       (holds .whole)
       (store-new (sized .objects) (holds .whole) (holds .store) room (emptyOf k) l free)
 
   pub object-keeps : {r : ObjectRequest} {o : Outcome} → ObjectSpans f r → comes.ObjectComes (sightOf (w .tables) (threadOf f) (OfObject r)) r o → WorldHolds (applied w f o)
-  object-keeps m (comes.stops x) = holds
-  object-keeps m (comes.makes {k} {l} a b free) = object-made k l (labels-are (w .tables .tags) l .1 (a, b)) free
-  object-keeps m (comes.deletes {o} used) =
+  object-keeps spans (comes.stops x) = holds
+  object-keeps spans (comes.makes {k} {l} a b free) = object-made k l (labels-are (w .tables .tags) l .1 (a, b)) free
+  object-keeps spans (comes.deletes {o} used) =
       let low = in-use o _ refl used in
       objects-changed (o .0) noObject _ (object-set (holds .objects) (o .0) noObject refl refl refl) (store-whole-freed s (holds .whole) low) (store-freed (sized .objects) (holds .whole) (holds .store) low)
-  object-keeps m (comes.reads e) = holds
-  object-keeps m (comes.writes {o} {p} e) =
+  object-keeps spans (comes.reads e) = holds
+  object-keeps spans (comes.writes {o} {m} e) =
       let low = in-use o what.Cell e refl in
-      let short = message-short f p m in
-      store-changed _ (store-whole-put s (holds .whole) low (givenBy f p) (omega arith) short) (store-written (sized .objects) (holds .whole) (holds .store) low (givenBy f p) e short)
-  object-keeps m (comes.puts {o} {p} held e room) =
+      let short = message-short f m spans in
+      let first : 0 < mostQueued = omega arith in
+      store-changed _ (store-whole-put s (holds .whole) low (givenBy f m) first short) (store-written (sized .objects) (holds .whole) (holds .store) low (givenBy f m) e short)
+  object-keeps spans (comes.puts {o} {m} held e room) =
       let low = in-use o (what.Queue held) e refl in
-      let short = message-short f p m in
+      let short = message-short f m spans in
       objects-changed (o .0) _ _
       (object-changed (holds .objects) (what.Queue (held + 1)) low (rw e refl) refl (le-leb (held + 1) mostQueued (omega (arith, room))))
-      (store-whole-put s (holds .whole) low (givenBy f p) room short)
-      (store-put (sized .objects) (holds .whole) (holds .store) low (givenBy f p) (objectAt rows (o .0) .labels) e room short)
-  object-keeps m (comes.gets {o} held e some) =
+      (store-whole-put s (holds .whole) low (givenBy f m) room short)
+      (store-put (sized .objects) (holds .whole) (holds .store) low (givenBy f m) (objectAt rows (o .0) .labels) e room short)
+  object-keeps spans (comes.gets {o} held e some) =
       let low = in-use o (what.Queue held) e refl in
       let fits = leb-true held mostQueued (rw e at (holds .objects .limits (o .0) low)) in
       objects-changed (o .0) _ _
       (object-changed (holds .objects) (what.Queue (held - 1)) low (rw e refl) refl (le-leb (held - 1) mostQueued (omega (arith, fits))))
       (store-whole-taken s (holds .whole) low)
       (store-taken (sized .objects) (holds .whole) (holds .store) low (objectAt rows (o .0) .labels) e fits)
-  object-keeps m (comes.locks {o} e) =
+  object-keeps spans (comes.locks {o} e) =
       let low = in-use o (what.Lock false) e refl in
       objects-changed (o .0) _ s (object-changed (holds .objects) (what.Lock true) low (rw e refl) refl refl) (holds .whole) (store-locked (sized .objects) (holds .whole) (holds .store) low true (objectAt rows (o .0) .labels) e)
-  object-keeps m (comes.unlocks {o} locked e) =
+  object-keeps spans (comes.unlocks {o} locked e) =
       let low = in-use o (what.Lock locked) e refl in
       objects-changed (o .0) _ s (object-changed (holds .objects) (what.Lock false) low (rw e refl) refl refl) (holds .whole) (store-locked (sized .objects) (holds .whole) (holds .store) low false (objectAt rows (o .0) .labels) e)
