@@ -5,3 +5,4 @@ pub mod Worlds
 pub mod ThreadsKeep
 pub mod AuthorityKeep
 pub mod ObjectsKeep
+pub mod NotPublic
