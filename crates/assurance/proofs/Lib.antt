@@ -6,3 +6,4 @@ pub mod ThreadsKeep
 pub mod AuthorityKeep
 pub mod ObjectsKeep
 pub mod NotPublic
+pub mod Growth
