@@ -7,3 +7,4 @@ pub mod AuthorityKeep
 pub mod ObjectsKeep
 pub mod NotPublic
 pub mod Growth
+pub mod WorldKept
