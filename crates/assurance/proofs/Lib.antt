@@ -8,3 +8,4 @@ pub mod ObjectsKeep
 pub mod NotPublic
 pub mod Growth
 pub mod WorldKept
+pub mod Kept
