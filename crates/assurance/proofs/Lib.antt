@@ -9,3 +9,5 @@ pub mod NotPublic
 pub mod Growth
 pub mod WorldKept
 pub mod Kept
+pub mod Fresh
+pub mod Demand3
