@@ -11,3 +11,4 @@ pub mod WorldKept
 pub mod Kept
 pub mod Fresh
 pub mod Demand3
+pub mod Reached
