@@ -12,3 +12,4 @@ pub mod Kept
 pub mod Fresh
 pub mod Demand3
 pub mod Reached
+pub mod Demand1

@@ -1,20 +1,70 @@
 -- The user's three demands, as statements about the definitions that the contracts cite; proofs/ has a proof of each. Assumes nothing.
 use mathlib.Core.Path.{_≡_}
-use mathlib.Core.Bool.{Bool, true, not, _&&_}
+use mathlib.Core.Bool.{Bool, true, not, cond, _&&_}
 use mathlib.Core.List.{List, [], _∷_}
 use mathlib.Core.Logic.{_⊎_, _↔_}
 use Prim.Native.Nat.{ℕ, zero, suc, _≤_}
-use lib.Dec.{ltb}
+use lib.Dec.{eqb, ltb}
 use lib.ListN.{length, getD}
 use Rattle.numbers.specs.Numbers.{mostRemembered}
 use Rattle.links.specs.Authority.{ActsForSome}
-use Rattle.frames.specs.Requests.{threadOf, requestOf}
+use Rattle.tables.specs.declared.Tables.{Tables}
+use Rattle.frames.specs.Requests.{threadOf, kindOf, requestOf, wellFormed}
+use Rattle.answers.specs.Answers.{statusOf, front}
+use Rattle.sight.specs.declared.Sight.{Sight}
 use Rattle.sight.specs.Sight.{tagNamed}
+use Rattle.prelude.specs.Prelude.{named, flows}
 use Rattle.rules.specs.Tested.{breakNoRule}
-use Rattle.step.specs.Step.{After, asksOne, asked}
-use Rattle.monitor.specs.Monitor.{shortestBuffer}
-use Rattle.assurance.specs.Runs.{Call, Machine, fresh, entered, next, clearedIf, machines, seenAll}
+use Rattle.state.specs.declared.State.{State}
+use Rattle.decide.specs.Decide.{decide}
+use Rattle.step.specs.World.{worldOf}
+use Rattle.step.specs.Step.{After, seen, asksOne, asked}
+use Rattle.monitor.specs.Monitor.{shortestBuffer, requested}
+use Rattle.assurance.specs.Runs.{Call, Machine, fresh, entered, worldAfter, next, clearedIf, machines, seenAll}
 use Rattle.assurance.specs.Leaves.{Known, runner, learnt, atFirst}
+
+-- ---- demand 1: "Each request, of any bytes and against any tables, is answered or refused by a number. The order of refusals is fixed."
+
+-- on any state s, lists l and g, store b, frame f and answer buffer a
+module _ (s : State) (l g b f a : List ℕ) where
+  abbrev tables : Tables
+  tables = s .tables
+
+  abbrev sight : Sight
+  sight = seen tables l g f
+
+  -- the tests in their order; 0, or 5 to 8, is what the row of the request's kind says
+  unfoldable pub numberOf : ℕ
+  numberOf =
+      cond (ltb (length a) shortestBuffer) 10
+      (cond (not (breakNoRule tables (s .memory) l g b)) 9
+      (cond (not (wellFormed f)) 1
+      (cond (not (sight .caller .live)) 2
+      (cond (not (named sight (requestOf f))) 3
+      (cond (not (flows sight (kindOf f) (requestOf f))) 4
+      (statusOf (decide sight l g (requestOf f) (asked tables l g f (s .memory) .yes) .answer)))))))
+
+  -- what a refusal leaves: "Besides giving its number, a refusal alters nothing but the remembered answers and their two counters, and
+  -- those only as the papers say"
+  pub record OnlyRefused : Type 0 where
+    pub world : worldAfter (requested s l g b f a) ≡ worldOf tables l g b
+    -- "A refusal writes its one byte (10 writes none)"
+    pub answer : requested s l g b f a .answer ≡ cond (eqb numberOf 10) a (front (numberOf ∷ []) a)
+    -- "A question counts even where the request is then refused 5 or 7"; where none was asked, nothing changes
+    pub memory :
+        requested s l g b f a .replied .state .memory
+        ≡ cond (ltb (length a) shortestBuffer) (s .memory) (cond (not (breakNoRule tables (s .memory) l g b)) (s .memory) (asked tables l g f (s .memory) .memory))
+
+abbrev pub OrderIsFixed : Type 0
+OrderIsFixed = (s : State) (l g b f a : List ℕ) → requested s l g b f a .replied .status ≡ numberOf s l g b f a
+
+abbrev pub RefusalsChangeNothing : Type 0
+RefusalsChangeNothing = (s : State) (l g b f a : List ℕ) → (numberOf s l g b f a ≡ 0 → ⊥) → OnlyRefused s l g b f a
+
+-- ---- demand 2: every contract is an equation with a definition, so no second answer fits it
+
+abbrev pub NoSecondAnswer : Type 1
+NoSecondAnswer = (A : Type 0) (definition one another : A) → one ≡ definition → another ≡ definition → one ≡ another
 
 -- ---- demand 3: "For any request list from the fresh state and any two memory sizes from 0 to 64, with either memory cleared between any
 -- requests and the same room for each answer, all answers agree, and so do all tables other than memory and counters."
