@@ -1,10 +1,10 @@
-//! Links the proved functions: the archives that `rt staticlib links_c` and
-//! `rt staticlib rules_c` write into target/staticlib of the repository. The
-//! environment variable STATICLIB names another directory to take them from.
+//! Where the program `bench` finds the proved functions that it links: the archives
+//! that `rt staticlib links_c` and `rt staticlib rules_c` write into target/staticlib
+//! of the repository. The environment variable STATICLIB names another directory to
+//! take them from. The program `lines` is built without them.
 
 use std::env;
 use std::path::{Path, PathBuf};
-use std::process::exit;
 
 const CRATES: [&str; 2] = ["links_c", "rules_c"];
 
@@ -13,19 +13,18 @@ fn main() {
     let directory = directory();
     println!("cargo:rustc-link-search=native={}", directory.display());
     for name in CRATES {
-        link(&directory, name);
+        look_for(&directory, name);
     }
 }
 
-fn link(directory: &Path, name: &str) {
+fn look_for(directory: &Path, name: &str) {
     let archive = directory.join(format!("lib{}.a", name));
     println!("cargo:rerun-if-changed={}", archive.display());
     if !archive.is_file() {
-        eprintln!("bench: there is no {}", archive.display());
-        eprintln!("bench: run `rt staticlib {}` in the repository first", name);
-        exit(1);
+        let missing = format!("there is no {}", archive.display());
+        let remedy = format!("run `rt staticlib {}` in the repository first", name);
+        println!("cargo:warning={}: to build bench, {}", missing, remedy);
     }
-    println!("cargo:rustc-link-lib=static={}", name);
 }
 
 fn directory() -> PathBuf {

@@ -1,6 +1,8 @@
 //! The same algorithms in plain safe Rust, written for speed: what the proved
 //! functions are measured against. Walks and whole lists go by rows of 64 bits.
 
+pub mod lines;
+mod monitor;
 mod rows;
 mod rules;
 mod walk;

@@ -8,6 +8,7 @@ use crate::questions::{Functions, Lent, Rooted, Tables};
 /// A lent list has a line of its own.
 #[rustfmt::skip]
 mod c {
+    #[link(name = "links_c", kind = "static")]
     extern "C" {
         pub fn links_acts_for(
             links: *const u32, places: usize, n: usize,
@@ -40,7 +41,10 @@ mod c {
             links: *const u32, places: usize, n: usize,
             tags: u32, principals: u32,
         ) -> bool;
+    }
 
+    #[link(name = "rules_c", kind = "static")]
+    extern "C" {
         pub fn rules_break_no_rule(
             numbers: *const u64, numbers_len: usize,
             links: *const u32, links_len: usize,
