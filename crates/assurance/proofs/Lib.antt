@@ -13,3 +13,4 @@ pub mod Fresh
 pub mod Demand3
 pub mod Reached
 pub mod Demand1
+pub mod Starred

@@ -1,3 +1,4 @@
 pub mod Runs
 pub mod Leaves
 pub mod Demands
+pub mod Cases

@@ -1,0 +1,23 @@
+-- The starred cases compute. Assumes nothing.
+use mathlib.Core.Path.{refl}
+use Rattle.decide_authority.specs.Authority.{newPrincipal, delegate, revoke, tellsActsFor, tagIfRoom, newTag, newSubtag, grant, ungrant}
+use Rattle.decide_objects.specs.Objects.{newObject, put, get, lock}
+use Rattle.decide_threads.specs.Threads.{outOfSecrecy, intoIntegrity, returned, fork, call}
+use Rattle.frames.specs.Needs.{needOf}
+use Rattle.frames.specs.Requests.{fixedLength, lengthByte, authorityRequest, threadRequest, objectRequest, outsideRequest, wellFormed, requestBy}
+use Rattle.links.specs.Authority.{actsForSome}
+use Rattle.links.specs.Cycles.{everyLink, noCycle}
+use Rattle.links.specs.Links.{linksFrom, findFrom, removed}
+use Rattle.links.specs.Paths.{joins, leads}
+use Rattle.memory.specs.Remembered.{without, remembered}
+use Rattle.numbers.specs.Below.{allBelow, anyBelow, countBelow}
+use Rattle.numbers.specs.Labels.{within, withTag, withoutTag, union, namesOnlyMade, size}
+use Rattle.numbers.specs.Sets.{setOf}
+use Rattle.prelude.specs.Prelude.{prelude}
+use Rattle.step.specs.Step.{outcome}
+use Rattle.tables.specs.Free.{firstOf}
+use Rattle.assurance.specs.Cases.{AllCases, allHold, runsTo, same}
+
+pub all-cases : AllCases
+unfolding allHold runsTo same newPrincipal delegate revoke tellsActsFor tagIfRoom newTag newSubtag grant ungrant newObject put get lock outOfSecrecy intoIntegrity returned fork call needOf fixedLength lengthByte authorityRequest threadRequest objectRequest outsideRequest wellFormed requestBy actsForSome everyLink noCycle linksFrom findFrom removed joins leads without remembered allBelow anyBelow countBelow within withTag withoutTag union namesOnlyMade size setOf prelude outcome firstOf
+all-cases = refl
