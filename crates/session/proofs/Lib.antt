@@ -1,0 +1,3 @@
+pub mod SessionLaws
+pub mod Answering
+pub mod Feeding

@@ -1,11 +1,10 @@
 -- A list of lines fed into a lent output buffer, and a whole list from the fresh state (01, "Lines"). Nothing is begun that might not
 -- have room: no half of an answer is ever written. Assumes nothing.
-use mathlib.Core.Bool.{Bool, true, false, cond, _&&_}
+use mathlib.Core.Bool.{Bool, cond, _&&_}
 use mathlib.Core.List.{List, [], _∷_, _++_}
 use Prim.Native.Nat.{ℕ, zero, suc, _+_, _-_}
 use lib.Dec.{eqb, ltb, leb}
 use lib.ListN.{length, take}
-use Rattle.store.specs.Store.{over}
 use Rattle.state.specs.Start.{started, zeroed}
 use Rattle.session.specs.declared.Fed.{Fed}
 use Rattle.session.specs.declared.Ran.{Ran}

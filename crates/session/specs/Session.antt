@@ -4,7 +4,7 @@ use mathlib.Core.Bool.{Bool, cond}
 use mathlib.Core.List.{List, [], _∷_, _++_}
 use Prim.Native.Nat.{ℕ, _+_, _/_, _%_}
 use lib.Dec.{eqb, ltb}
-use lib.ListN.{length, take, set, replicate}
+use lib.ListN.{take, set, replicate}
 use Rattle.answers.specs.declared.Answer.the-variants.{Refused}
 use Rattle.answers.specs.declared.Refusal.the-variants.{Malformed}
 use Rattle.answers.specs.Answers.{refusalNumber}
@@ -46,6 +46,10 @@ pub record Session : Type 0 where
   pub grants : List ℕ
   pub store : List ℕ
   pub line : Line
+
+-- the state s with the lists l and g, the store b and the line in the making z
+abbrev pub sessionOf : State → List ℕ → List ℕ → List ℕ → Line → Session
+sessionOf s l g b z = record { state = s; links = l; grants = g; store = b; line = z }
 
 module _ (z : Session) where
   -- the line that has ended, and what it leaves

@@ -1,0 +1,69 @@
+-- What a whole line leaves: its frame's request, or a refusal 1; and that the answer of either lies within its buffer. Assumes nothing.
+use mathlib.Core.Path.{_≡_, refl, sym, ap, _∙_}
+use mathlib.Core.Bool.{true, false, not, cond}
+use mathlib.Core.List.{List, [], _∷_}
+use Prim.Native.Nat.{ℕ, _+_, _/_, _≤_, _<_}
+use native.Mathlib.Omega.{arith}
+use lib.Dec.{ltb}
+use lib.ListN.{length, take, drop, set, length-take, length-append}
+use lib.Seq.{set-split, take-at}
+use Rattle.numbers.proofs.Bools.{and-left, by-test}
+use Rattle.numbers.proofs.Chain.{skip, hit}
+use Rattle.answers.specs.declared.Refusal.the-variants.{Malformed, BrokenRule}
+use Rattle.answers.specs.Answers.{refusalNumber, front}
+use Rattle.lines.specs.Lines.{frameOf, allDigits, rightLength, isFrame}
+use Rattle.lines.proofs.LineLaws.{frame-length}
+use Rattle.rules.specs.Tested.{breakNoRule}
+use Rattle.monitor.specs.Monitor.{shortestBuffer, noRoom, broken, requested}
+use Rattle.state.specs.declared.State.{State}
+use Rattle.step.specs.Step.{After, before, stepAnswer, stepped}
+use Rattle.store.specs.Store.{over}
+use Rattle.session.specs.Session.{lineAnswered}
+
+-- ---- a line z that is a frame, or that is none
+
+-- its frame stands at the front of a buffer that it was read into
+module _ (z l r : List ℕ) (e : isFrame z ≡ true) (q : r ≡ cond (rightLength z) (over l 0 (frameOf z)) l) where
+  pub frame-read : take (length z / 2) r ≡ frameOf z
+  frame-read =
+      ap (take (length z / 2)) (q ∙ sym (hit l (and-left (rightLength z) (allDigits z) e) refl))
+      ∙ take-at (frameOf z) (drop (0 + length (frameOf z)) l) (length z / 2) (frame-length z)
+
+  pub frame-count : length z / 2 ≡ length (take (length z / 2) r)
+  frame-count = sym (ap length frame-read ∙ frame-length z)
+
+  pub frame-fits : length z / 2 ≤ length r
+  frame-fits = omega (arith, frame-count, length-take (length z / 2) r)
+
+module _ (s : State) (l g b z a : List ℕ) where
+  pub when-frame : isFrame z ≡ true → requested s l g b (frameOf z) a ≡ lineAnswered s l g b z a
+  when-frame e = hit _ e refl
+
+  pub when-none :
+      isFrame z ≡ false → 0 < length a
+      → record { replied = record { status = 1; written = 1; state = s }; links = l; grants = g; store = b; answer = set a 0 1 } ≡ lineAnswered s l g b z a
+  when-none e h =
+      skip _ e (ap (λ (x : List ℕ). record { replied = record { status = 1; written = 1; state = s }; links = l; grants = g; store = b; answer = x }) (set-split a 0 1 h))
+
+-- ---- where the answer buffer keeps its length, what was written lies within it
+
+abbrev Within : ℕ → After → Type 0
+Within n x = length (x .answer) ≡ n → x .replied .written ≤ n
+
+-- bytes put at the front of a buffer that keeps its length
+front-within : (bs a : List ℕ) → length (front bs a) ≡ length a → length bs ≤ length a
+front-within bs a e = omega (arith, length-append bs (drop (length bs) a))
+
+requested-within : (s : State) (l g b f a : List ℕ) → Within (length a) (requested s l g b f a)
+unfolding requested
+requested-within s l g b f a =
+    by-test (Within (length a)) (ltb (length a) shortestBuffer) {x = noRoom s l g b f a} (λ _ _. omega arith)
+    (λ _.
+    by-test (Within (length a)) (not (breakNoRule (s .tables) (s .memory) l g b)) {x = broken s l g b f a} {y = stepped s l g b f a}
+    (λ _. front-within (refusalNumber BrokenRule ∷ []) a)
+    (λ _. front-within (stepAnswer (before s l g b f a) (s .memory) f) a))
+
+pub answered-within :
+    (s : State) (l g b z a : List ℕ) → length (lineAnswered s l g b z a .answer) ≡ length a → lineAnswered s l g b z a .replied .written ≤ length a
+answered-within s l g b z a =
+    by-test (Within (length a)) (isFrame z) (λ _. requested-within s l g b (frameOf z) a) (λ _. front-within (refusalNumber Malformed ∷ []) a)
