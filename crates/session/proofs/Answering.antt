@@ -1,24 +1,25 @@
 -- What a whole line leaves: its frame's request, or a refusal 1; and that the answer of either lies within its buffer. Assumes nothing.
-use mathlib.Core.Path.{_≡_, refl, sym, ap, _∙_}
+use mathlib.Core.Path.{_≡_, refl, sym, ap, ap₂, _∙_}
 use mathlib.Core.Bool.{true, false, not, cond}
 use mathlib.Core.List.{List, [], _∷_}
 use Prim.Native.Nat.{ℕ, _+_, _/_, _≤_, _<_}
 use native.Mathlib.Omega.{arith}
 use lib.Dec.{ltb}
-use lib.ListN.{length, take, drop, set, length-take, length-append}
-use lib.Seq.{set-split, take-at}
+use lib.ListN.{length, take, drop, set, replicate, length-take, length-append}
+use lib.Seq.{length-take-le, set-split, take-at}
 use Rattle.numbers.proofs.Bools.{and-left, by-test}
 use Rattle.numbers.proofs.Chain.{skip, hit}
 use Rattle.answers.specs.declared.Refusal.the-variants.{Malformed, BrokenRule}
 use Rattle.answers.specs.Answers.{refusalNumber, front}
-use Rattle.lines.specs.Lines.{frameOf, allDigits, rightLength, isFrame}
-use Rattle.lines.proofs.LineLaws.{frame-length}
+use Rattle.lines.specs.Lines.{lineFeed, frameOf, allDigits, rightLength, isFrame, digitsIn, lineOf}
+use Rattle.lines.proofs.LineLaws.{frame-length, digits-length}
 use Rattle.rules.specs.Tested.{breakNoRule}
 use Rattle.monitor.specs.Monitor.{shortestBuffer, noRoom, broken, requested}
 use Rattle.state.specs.declared.State.{State}
+use Rattle.step.specs.declared.Replied.{Replied}
 use Rattle.step.specs.Step.{After, before, stepAnswer, stepped}
 use Rattle.store.specs.Store.{over}
-use Rattle.session.specs.Session.{lineAnswered}
+use Rattle.session.specs.Session.{Session, lineBytes, lineAnswered, turn, endOf, printed}
 
 -- ---- a line z that is a frame, or that is none
 
@@ -67,3 +68,40 @@ pub answered-within :
     (s : State) (l g b z a : List ℕ) → length (lineAnswered s l g b z a .answer) ≡ length a → lineAnswered s l g b z a .replied .written ≤ length a
 answered-within s l g b z a =
     by-test (Within (length a)) (isFrame z) (λ _. requested-within s l g b (frameOf z) a) (λ _. front-within (refusalNumber Malformed ∷ []) a)
+
+-- ---- the end of a line: its answer r is in the buffer m
+
+pub record Answered (z : Session) (r : Replied) (m : List ℕ) : Type 0 where
+  pub reply : r ≡ turn z .replied
+  pub buffer : m ≡ turn z .answer
+  pub kept : length m ≡ shortestBuffer
+
+module _ {z : Session} {r : Replied} {m : List ℕ} (a : Answered z r m) where
+  pub written-fits : r .written ≤ length m
+  written-fits =
+      omega (
+        arith,
+        ap (λ (x : Replied). x .written) (a .reply),
+        a .kept,
+        answered-within (z .state) (z .links) (z .grants) (z .store) (lineBytes (z .line)) (replicate shortestBuffer 0) (sym (ap length (a .buffer)) ∙ a .kept),
+      )
+
+  pub written-short : r .written ≤ shortestBuffer
+  written-short = omega (arith, written-fits, a .kept)
+
+  pub written-count : r .written ≡ length (take (r .written) m)
+  written-count = sym (length-take-le (r .written) m written-fits)
+
+  -- its line
+  pub printed-is : lineOf (take (r .written) m) ≡ printed z
+  printed-is = ap₂ (λ (x : Replied) (v : List ℕ). lineOf (take (x .written) v)) (a .reply) (a .buffer)
+
+  -- "two digits a byte" and an LF
+  pub printed-length : r .written + r .written + 1 ≡ length (printed z)
+  printed-length =
+      let bs = take (r .written) m in
+      let d : r .written + r .written + 1 ≡ length (lineOf bs) = omega (arith, written-count, length-append (digitsIn bs) (lineFeed ∷ []), digits-length bs) in
+      d ∙ ap length printed-is
+
+  pub end-is : record { state = r .state; written = r .written + r .written + 1 } ≡ endOf z
+  end-is = ap₂ (λ (x : State) (n : ℕ). record { state = x; written = n }) (ap (λ (x : Replied). x .state) (a .reply)) printed-length

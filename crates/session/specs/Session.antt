@@ -4,7 +4,7 @@ use mathlib.Core.Bool.{Bool, cond}
 use mathlib.Core.List.{List, [], _∷_, _++_}
 use Prim.Native.Nat.{ℕ, _+_, _/_, _%_}
 use lib.Dec.{eqb, ltb}
-use lib.ListN.{take, set, replicate}
+use lib.ListN.{length, take, set, replicate}
 use Rattle.answers.specs.declared.Answer.the-variants.{Refused}
 use Rattle.answers.specs.declared.Refusal.the-variants.{Malformed}
 use Rattle.answers.specs.Answers.{refusalNumber}
@@ -15,6 +15,7 @@ use Rattle.step.specs.World.{worldOf}
 use Rattle.step.specs.Step.{After, leaves}
 use Rattle.monitor.specs.Monitor.{shortestBuffer, requested}
 use Rattle.session.specs.declared.Line.{Line}
+use Rattle.session.specs.declared.Turned.{Turned}
 
 -- ---- a line in the making: of a line no more is kept than tells that it is too long
 
@@ -69,6 +70,10 @@ module _ (z : Session) where
   -- "prints one answer a line"
   abbrev pub printed : List ℕ
   printed = lineOf (take (turn .replied .written) (turn .answer))
+
+  -- what its end leaves beside the lent buffers
+  abbrev pub endOf : Turned
+  endOf = record { state = turned .state; written = length printed }
 
   -- one byte of input: a line feed ends the line
   abbrev pub takes : ℕ → Session

@@ -2,19 +2,25 @@
 // to the next. A block is read while the output buffer has room for an answer, so that no half of one is ever
 // written.
 ghost use mathlib.Core.Path.{_≡_};
-ghost use Prim.Native.Nat.{_≤_};
+ghost use Prim.Native.Nat.{_+_, _≤_};
 ghost use lib.ListN.{length};
+ghost use Rattle.store.specs.Store.{over};
 ghost use Rattle.monitor.specs.Monitor.{shortestBuffer};
-ghost use Rattle.session.specs.Session.{lineAnswered};
+ghost use Rattle.session.specs.Session.{lineAnswered, sessionOf, turned, printed, endOf};
+ghost use Rattle.session.specs.Run.{answerRoom};
 use lines::frame_of;
+use lines::put_line;
 use monitor::request;
 use state::State;
 use step::Replied;
 
-// A line in the making: of a line no more is kept than tells that it is too long.
+// Of a line no more is kept than tells that it is too long.
+const KEPT: usize = 73;
+
+// A line in the making.
 pub struct Line {
     pub held: usize,
-    pub bytes: [u8; 73],
+    pub bytes: [u8; KEPT],
 }
 
 // What a block of input leaves: how much of it was read, and how much was written.
@@ -32,6 +38,12 @@ pub struct Ran {
     pub read: usize,
     pub written: usize,
     pub complete: bool,
+}
+
+// What a line's end leaves: the state, and how many bytes were written.
+struct Turned {
+    pub state: State,
+    pub written: usize,
 }
 
 // A whole line: its frame is a request; or "refused 1: 01 is printed for it and nothing changes".
@@ -61,4 +73,36 @@ fn answer_line(
     }
     let n = line.len() / 2;
     request(s, links, grants, store, &frame[..n], answer)
+}
+
+// The end of a line: "prints one answer a line".
+fn end_line(
+    s: State,
+    links: &mut [u32],
+    grants: &mut [u32],
+    store: &mut [u8],
+    line: Line,
+    out: &mut [u8],
+    at: usize,
+) -> Turned
+    requires { ⌜ at + answerRoom ≤ length (now out) ⌝ }
+    ensures { λ r. ⌜ r ≡ endOf (sessionOf s (now (links .entry)) (now (grants .entry)) (now (store .entry)) line) ⌝ }
+    ensures { λ _. ⌜ now (links .exit) ≡ turned (sessionOf s (now (links .entry)) (now (grants .entry)) (now (store .entry)) line) .links ⌝ }
+    ensures { λ _. ⌜ now (grants .exit) ≡ turned (sessionOf s (now (links .entry)) (now (grants .entry)) (now (store .entry)) line) .grants ⌝ }
+    ensures { λ _. ⌜ now (store .exit) ≡ turned (sessionOf s (now (links .entry)) (now (grants .entry)) (now (store .entry)) line) .store ⌝ }
+    ensures { λ _. ⌜ now (out .exit) ≡ over (now (out .entry)) at (printed (sessionOf s (now (links .entry)) (now (grants .entry)) (now (store .entry)) line)) ⌝ }
+    ensures { λ r. ⌜ r .written ≤ answerRoom ⌝ }
+{
+    let held = line.held;
+    let bytes = line.bytes;
+    let n = if held < KEPT { held } else { KEPT };
+    let mut answer = [0u8; 34];
+    let r = answer_line(s, links, grants, store, &bytes[..n], &mut answer);
+    let k = r.written;
+    put_line(&answer[..k], out, at);
+    let state = r.state;
+    Turned {
+        state,
+        written: k + k + 1,
+    }
 }
