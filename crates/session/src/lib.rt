@@ -7,7 +7,8 @@ ghost use lib.ListN.{length};
 ghost use Rattle.store.specs.Store.{over};
 ghost use Rattle.monitor.specs.Monitor.{shortestBuffer};
 ghost use Rattle.session.specs.Session.{lineAnswered, sessionOf, turned, printed, endOf};
-ghost use Rattle.session.specs.Run.{answerRoom};
+ghost use Rattle.session.specs.Run.{answerRoom, fed, fedSession, fedBytes};
+use lines::LINE_FEED;
 use lines::frame_of;
 use lines::put_line;
 use monitor::request;
@@ -16,6 +17,9 @@ use step::Replied;
 
 // Of a line no more is kept than tells that it is too long.
 const KEPT: usize = 73;
+
+// The longest answer as a line.
+const ANSWER_ROOM: usize = 69;
 
 // A line in the making.
 pub struct Line {
@@ -104,5 +108,52 @@ fn end_line(
     Turned {
         state,
         written: k + k + 1,
+    }
+}
+
+// A block of input, while there is room for an answer.
+pub fn feed(
+    s: State,
+    links: &mut [u32],
+    grants: &mut [u32],
+    store: &mut [u8],
+    line: Line,
+    input: &[u8],
+    out: &mut [u8],
+) -> Fed
+    ensures { λ r. ⌜ r ≡ fed (sessionOf s (now (links .entry)) (now (grants .entry)) (now (store .entry)) line) (now (input .entry)) (now (out .entry)) ⌝ }
+    ensures { λ _. ⌜ now (links .exit) ≡ fedSession (sessionOf s (now (links .entry)) (now (grants .entry)) (now (store .entry)) line) (now (input .entry)) (now (out .entry)) .links ⌝ }
+    ensures { λ _. ⌜ now (grants .exit) ≡ fedSession (sessionOf s (now (links .entry)) (now (grants .entry)) (now (store .entry)) line) (now (input .entry)) (now (out .entry)) .grants ⌝ }
+    ensures { λ _. ⌜ now (store .exit) ≡ fedSession (sessionOf s (now (links .entry)) (now (grants .entry)) (now (store .entry)) line) (now (input .entry)) (now (out .entry)) .store ⌝ }
+    ensures { λ _. ⌜ now (out .exit) ≡ over (now (out .entry)) 0 (fedBytes (sessionOf s (now (links .entry)) (now (grants .entry)) (now (store .entry)) line) (now (input .entry)) (now (out .entry))) ⌝ }
+{
+    let mut state = s;
+    let mut held = line.held;
+    let mut bytes = line.bytes;
+    let mut i = 0;
+    let mut at = 0;
+    while i < input.len() {
+        if out.len() - at < ANSWER_ROOM {
+            break;
+        }
+        let b = input[i];
+        i += 1;
+        if b == LINE_FEED {
+            let whole = Line { held, bytes };
+            let t = end_line(state, links, grants, store, whole, out, at);
+            state = t.state;
+            at += t.written;
+            held = 0;
+        } else if held < KEPT {
+            bytes[held] = b;
+            held += 1;
+        }
+    }
+    let line = Line { held, bytes };
+    Fed {
+        state,
+        line,
+        read: i,
+        written: at,
     }
 }
