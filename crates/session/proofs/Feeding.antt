@@ -11,8 +11,6 @@ use Rattle.numbers.proofs.Chain.{skip, hit}
 use Rattle.lines.specs.Lines.{lineFeed}
 use Rattle.store.specs.Store.{over}
 use Rattle.store.proofs.Over.{over-none, over-over}
-use Rattle.state.specs.declared.State.{State}
-use Rattle.session.specs.declared.Line.{Line}
 use Rattle.session.specs.Session.{Session, sessionOf, pushed, turned, printed, takes, says, after, output}
 use Rattle.session.specs.Run.{answerRoom, readable, fed, fedSession, fedBytes}
 use Rattle.session.proofs.SessionLaws.{after-next, output-next, readable-next}
@@ -122,9 +120,3 @@ module _ (z : Session) (input o : List ℕ) where
           ),
         ),
       )
-
--- equal parts are an equal session
-pub same-session :
-    {s t : State} {l m g h b d : List ℕ} (z : Line) → s ≡ t → l ≡ m → g ≡ h → b ≡ d → sessionOf s l g b z ≡ sessionOf t m h d z
-same-session {s} {t} {l} {m} {g} {h} {b} {d} z e f k q =
-    ap₂ (λ (x : State) (y : List ℕ). sessionOf x y g b z) e f ∙ ap₂ (λ (x y : List ℕ). sessionOf t m x y z) k q

@@ -1,3 +1,4 @@
 pub mod SessionLaws
 pub mod Answering
 pub mod Feeding
+pub mod Ending

@@ -1,5 +1,5 @@
 -- Feeding a list in pieces is feeding it whole, and one byte more of a list. Assumes nothing.
-use mathlib.Core.Path.{_≡_, refl, sym, ap, _∙_}
+use mathlib.Core.Path.{_≡_, refl, sym, ap, ap₂, _∙_}
 use mathlib.Core.List.{List, [], _∷_, _++_, append-assoc, append-nil}
 use Prim.Native.Nat.{ℕ, suc, _+_, _-_, _≤_, _<_}
 use native.Mathlib.Numerals.{add-one}
@@ -10,8 +10,16 @@ use lib.ListN.{length, take, drop, getD, drop-of-length-le}
 use lib.Seq.{take-suc, drop-cons}
 use Rattle.numbers.proofs.Bools.{by-test}
 use Rattle.numbers.proofs.Chain.{skip, hit}
-use Rattle.session.specs.Session.{Session, takes, says, after, output}
+use Rattle.state.specs.declared.State.{State}
+use Rattle.session.specs.declared.Line.{Line}
+use Rattle.session.specs.Session.{Session, sessionOf, takes, says, after, output}
 use Rattle.session.specs.Run.{answerRoom, readable}
+
+-- equal parts are an equal session
+pub same-session :
+    {s t : State} {l m g h b d : List ℕ} (z : Line) → s ≡ t → l ≡ m → g ≡ h → b ≡ d → sessionOf s l g b z ≡ sessionOf t m h d z
+same-session {s} {t} {l} {m} {g} {h} {b} {d} z e f k q =
+    ap₂ (λ (x : State) (y : List ℕ). sessionOf x y g b z) e f ∙ ap₂ (λ (x y : List ℕ). sessionOf t m x y z) k q
 
 -- ---- the promise that a list may be fed in pieces: what two pieces leave, one after the other, the whole leaves ..
 

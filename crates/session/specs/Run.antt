@@ -7,6 +7,7 @@ use lib.Dec.{eqb, ltb, leb}
 use lib.ListN.{length, take}
 use Rattle.state.specs.Start.{started, zeroed}
 use Rattle.session.specs.declared.Fed.{Fed}
+use Rattle.session.specs.declared.Finished.{Finished}
 use Rattle.session.specs.declared.Ran.{Ran}
 use Rattle.session.specs.Session.{Session, noLine, takes, says, after, output, ending, ended}
 
@@ -48,6 +49,9 @@ module _ (z : Session) (o : List ℕ) (at : ℕ) where
 
   abbrev pub endBytes : List ℕ
   endBytes = cond canEnd (ending z) []
+
+  abbrev pub finished : Finished
+  finished = record { state = endSession .state; written = length endBytes; complete = canEnd }
 
 -- ---- a whole list from the fresh state with this memory size
 

@@ -3,14 +3,16 @@
 // written.
 ghost use mathlib.Core.Path.{_≡_};
 ghost use Prim.Native.Nat.{_+_, _≤_};
+ghost use lib.Dec.{leb};
 ghost use lib.ListN.{length};
 ghost use Rattle.store.specs.Store.{over};
 ghost use Rattle.monitor.specs.Monitor.{shortestBuffer};
-ghost use Rattle.session.specs.Session.{lineAnswered, sessionOf, turned, printed, endOf};
-ghost use Rattle.session.specs.Run.{answerRoom, fed, fedSession, fedBytes};
+ghost use Rattle.session.specs.Session.{lineAnswered, sessionOf, turned, printed, endOf, lastLine};
+ghost use Rattle.session.specs.Run.{answerRoom, endingRoom, fed, fedSession, fedBytes, endSession, endBytes, finished};
 use lines::LINE_FEED;
 use lines::frame_of;
 use lines::put_line;
+use memory::Memory;
 use monitor::request;
 use state::State;
 use step::Replied;
@@ -20,6 +22,12 @@ const KEPT: usize = 73;
 
 // The longest answer as a line.
 const ANSWER_ROOM: usize = 69;
+
+// The longest ending: an answer and the last line.
+const ENDING_ROOM: usize = 88;
+
+// The last line.
+const LAST_LINE: usize = 19;
 
 // A line in the making.
 pub struct Line {
@@ -33,6 +41,13 @@ pub struct Fed {
     pub line: Line,
     pub read: usize,
     pub written: usize,
+}
+
+// What the end of the input leaves: how much was written, and whether there was room for it.
+pub struct Finished {
+    pub state: State,
+    pub written: usize,
+    pub complete: bool,
 }
 
 // What a whole list leaves. The status is 0, or 11 at a start that was refused.
@@ -155,5 +170,81 @@ pub fn feed(
         line,
         read: i,
         written: at,
+    }
+}
+
+// The last line: "FF, questions, hits (4 bytes each, high first)".
+fn put_last(m: Memory, out: &mut [u8], at: usize)
+    requires { ⌜ at + 19 ≤ length (now out) ⌝ }
+    ensures { λ _. ⌜ now (out .exit) ≡ over (now (out .entry)) at (lastLine m) ⌝ }
+{
+    let questions = m.questions;
+    let hits = m.hits;
+    let bytes = [
+        0xFF,
+        (questions / 16777216) as u8,
+        (questions / 65536 % 256) as u8,
+        (questions / 256 % 256) as u8,
+        (questions % 256) as u8,
+        (hits / 16777216) as u8,
+        (hits / 65536 % 256) as u8,
+        (hits / 256 % 256) as u8,
+        (hits % 256) as u8,
+    ];
+    put_line(&bytes, out, at);
+}
+
+// There is room for the longest ending at `at`; written out since at + 88 could wrap.
+fn can_end(length: usize, at: usize) -> bool
+    ensures { λ r. ⌜ r ≡ leb (at + endingRoom) length ⌝ }
+{
+    if length < ENDING_ROOM {
+        return false;
+    }
+    at <= length - ENDING_ROOM
+}
+
+// The end of the input: "A last line without LF counts if it has a byte", and the last line. All of it is
+// written at `at`, or nothing where there is no room.
+pub fn finish(
+    s: State,
+    links: &mut [u32],
+    grants: &mut [u32],
+    store: &mut [u8],
+    line: Line,
+    out: &mut [u8],
+    at: usize,
+) -> Finished
+    ensures { λ r. ⌜ r ≡ finished (sessionOf s (now (links .entry)) (now (grants .entry)) (now (store .entry)) line) (now (out .entry)) at ⌝ }
+    ensures { λ _. ⌜ now (links .exit) ≡ endSession (sessionOf s (now (links .entry)) (now (grants .entry)) (now (store .entry)) line) (now (out .entry)) at .links ⌝ }
+    ensures { λ _. ⌜ now (grants .exit) ≡ endSession (sessionOf s (now (links .entry)) (now (grants .entry)) (now (store .entry)) line) (now (out .entry)) at .grants ⌝ }
+    ensures { λ _. ⌜ now (store .exit) ≡ endSession (sessionOf s (now (links .entry)) (now (grants .entry)) (now (store .entry)) line) (now (out .entry)) at .store ⌝ }
+    ensures { λ _. ⌜ now (out .exit) ≡ over (now (out .entry)) at (endBytes (sessionOf s (now (links .entry)) (now (grants .entry)) (now (store .entry)) line) (now (out .entry)) at) ⌝ }
+{
+    if !can_end(out.len(), at) {
+        return Finished {
+            state: s,
+            written: 0,
+            complete: false,
+        };
+    }
+    if line.held < 1 {
+        let m = s.memory;
+        put_last(m, out, at);
+        return Finished {
+            state: s,
+            written: LAST_LINE,
+            complete: true,
+        };
+    }
+    let t = end_line(s, links, grants, store, line, out, at);
+    let state = t.state;
+    let m = state.memory;
+    let n = t.written;
+    put_last(m, out, at + n);
+    Finished {
+        state,
+        written: n + LAST_LINE,
+        complete: true,
     }
 }

@@ -9,8 +9,8 @@ use Rattle.numbers.proofs.Chain.{skip, hit}
 use Rattle.session.specs.declared.Line.{Line}
 use Rattle.session.specs.declared.Turned.{Turned}
 use Rattle.session.specs.Session.{Session, sessionOf, restarted}
-use Rattle.session.proofs.SessionLaws.{readable-full, readable-end}
-use Rattle.session.proofs.Feeding.{FedSoFar, fed-none, fed-line, fed-byte, fed-all, same-session}
+use Rattle.session.proofs.SessionLaws.{same-session, readable-full, readable-end}
+use Rattle.session.proofs.Feeding.{FedSoFar, fed-none, fed-line, fed-byte, fed-all}
 use Rattle.session.proofs.feed.Statement.{statement}
 use Rattle.session.proofs.feed.Tie as tie
 
