@@ -28,7 +28,7 @@ pub record FedSoFar (z : Session) (input o : List ℕ) (i : ℕ) (y : Session) (
   pub rest : readable z input (length o) ≡ i + readable y (drop i input) (length o - at)
 
 -- bytes put over a part of a list that keeps its length fit there
-over-fits : (l : List ℕ) (at : ℕ) (bs : List ℕ) → at ≤ length l → length (over l at bs) ≡ length l → at + length bs ≤ length l
+pub over-fits : (l : List ℕ) (at : ℕ) (bs : List ℕ) → at ≤ length l → length (over l at bs) ≡ length l → at + length bs ≤ length l
 over-fits l at bs h e =
     omega (arith, e, length-append (take at l) (bs ++ drop (at + length bs) l), length-append bs (drop (at + length bs) l), length-take-le at l h)
 

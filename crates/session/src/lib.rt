@@ -8,13 +8,14 @@ ghost use lib.ListN.{length};
 ghost use Rattle.store.specs.Store.{over};
 ghost use Rattle.monitor.specs.Monitor.{shortestBuffer};
 ghost use Rattle.session.specs.Session.{lineAnswered, sessionOf, turned, printed, endOf, lastLine};
-ghost use Rattle.session.specs.Run.{answerRoom, endingRoom, fed, fedSession, fedBytes, endSession, endBytes, finished};
+ghost use Rattle.session.specs.Run.{answerRoom, endingRoom, fed, fedSession, fedBytes, endSession, endBytes, finished, ran, ranSession, ranBytes};
 use lines::LINE_FEED;
 use lines::frame_of;
 use lines::put_line;
 use memory::Memory;
 use monitor::request;
 use state::State;
+use state::start;
 use step::Replied;
 
 // Of a line no more is kept than tells that it is too long.
@@ -246,5 +247,53 @@ pub fn finish(
         state,
         written: n + LAST_LINE,
         complete: true,
+    }
+}
+
+// A whole list from the fresh state with this memory size. Where the output buffer has no room for all of it,
+// what was read and written is said, and the list is not complete.
+pub fn run(
+    size: usize,
+    links: &mut [u32],
+    grants: &mut [u32],
+    store: &mut [u8],
+    input: &[u8],
+    out: &mut [u8],
+) -> Ran
+    ensures { λ r. ⌜ r ≡ ran size (now (links .entry)) (now (grants .entry)) (now (store .entry)) (now (input .entry)) (now (out .entry)) ⌝ }
+    ensures { λ _. ⌜ now (links .exit) ≡ ranSession size (now (links .entry)) (now (grants .entry)) (now (store .entry)) (now (input .entry)) (now (out .entry)) .links ⌝ }
+    ensures { λ _. ⌜ now (grants .exit) ≡ ranSession size (now (links .entry)) (now (grants .entry)) (now (store .entry)) (now (input .entry)) (now (out .entry)) .grants ⌝ }
+    ensures { λ _. ⌜ now (store .exit) ≡ ranSession size (now (links .entry)) (now (grants .entry)) (now (store .entry)) (now (input .entry)) (now (out .entry)) .store ⌝ }
+    ensures { λ _. ⌜ now (out .exit) ≡ over (now (out .entry)) 0 (ranBytes size (now (links .entry)) (now (grants .entry)) (now (store .entry)) (now (input .entry)) (now (out .entry))) ⌝ }
+{
+    let first = start(size, links, grants, store);
+    let status = first.status;
+    let fresh = first.state;
+    let none = Line {
+        held: 0,
+        bytes: [0; KEPT],
+    };
+    let f = feed(fresh, links, grants, store, none, input, out);
+    let state = f.state;
+    let read = f.read;
+    let at = f.written;
+    if read < input.len() {
+        return Ran {
+            status,
+            state,
+            read,
+            written: at,
+            complete: false,
+        };
+    }
+    let line = f.line;
+    let e = finish(state, links, grants, store, line, out, at);
+    let last = e.state;
+    Ran {
+        status,
+        state: last,
+        read,
+        written: at + e.written,
+        complete: e.complete,
     }
 }
