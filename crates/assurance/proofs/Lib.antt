@@ -14,3 +14,4 @@ pub mod Demand3
 pub mod Reached
 pub mod Demand1
 pub mod Starred
+pub mod LeafLists

@@ -40,21 +40,21 @@ pub record NewLink (l : List ℕ) (n tags principals x : ℕ) : Type 0 where
   pub acyclic : Path (linksIn l n (OfTag (record { 0 = tagIn x }))) (toIn x) (fromIn x) → ⊥
 
 -- the links of one tag
-abbrev ofTag : List ℕ → ℕ → ℕ → List Link
+abbrev pub ofTag : List ℕ → ℕ → ℕ → List Link
 ofTag l n t = linksIn l n (OfTag (record { 0 = t }))
 
 -- ---- the parts of a link's number
 
 -- x is the link from p to q of tag t
-abbrev Parts : ℕ → ℕ → ℕ → ℕ → Type 0
+abbrev pub Parts : ℕ → ℕ → ℕ → ℕ → Type 0
 Parts x t p q = (tagIn x ≡ t) × ((fromIn x ≡ p) × (toIn x ≡ q))
 
 -- the number made of three parts has them
-number-parts : (t p q : ℕ) → p < 64 → q < 64 → (x : ℕ) → x ≡ (t * 256 + p) * 256 + q → Parts x t p q
+pub number-parts : (t p q : ℕ) → p < 64 → q < 64 → (x : ℕ) → x ≡ (t * 256 + p) * 256 + q → Parts x t p q
 number-parts t p q near far x e = omega (arith, tag-parts x)
 
 -- and so has one that names a link of a tag
-names-parts : (t : ℕ) {x p q : ℕ} → Names (t * 256) x p q → Parts x t p q
+pub names-parts : (t : ℕ) {x p q : ℕ} → Names (t * 256) x p q → Parts x t p q
 names-parts t {x} w = omega (arith, tag-parts x)
 
 -- its tag and its ends are made
@@ -71,7 +71,7 @@ each-made : {l : List ℕ} {n tags principals : ℕ} → LinksHold l n tags prin
 each-made {l} {n} {tags} {principals} h i low = made-is l tags principals i .0 (h .made i low)
 
 -- a link of a tag stands at one of the places in use
-linked-at : (l : List ℕ) (n t p q : ℕ) → joins (ofTag l n t) p q ≡ true → (i : ℕ) × (i < n) × Parts (at l i) t p q
+pub linked-at : (l : List ℕ) (n t p q : ℕ) → joins (ofTag l n t) p q ≡ true → (i : ℕ) × (i < n) × Parts (at l i) t p q
 linked-at l n t p q e =
     let w = joins-number (t * 256) (take n l) p q e in
     let low : w .0 < n = omega (arith, w .1, length-take n l) in
@@ -149,7 +149,7 @@ zero-then ys zero zeros = refl
 zero-then ys (suc m) zeros = zeros m refl
 
 -- where that stood which a removal at i leaves at j: there, or from i on one place later
-abbrev stood : ℕ → ℕ → ℕ
+abbrev pub stood : ℕ → ℕ → ℕ
 stood i j = j + (1 - (i - j))
 
 module _ (l : List ℕ) (n i : ℕ) (h : i < n) (fits : n ≤ length l) where
@@ -179,7 +179,7 @@ module _ (l : List ℕ) (n i : ℕ) (h : i < n) (fits : n ≤ length l) where
       ∙ omega (arith, length-append front (back ++ (0 ∷ drop n l)), length-append back (0 ∷ drop n l), length-drop n l, front-length, back-length)
 
   -- the places in use
-  removed-at : (j : ℕ) → j < n - 1 → at (removed l n i) j ≡ at l (stood i j)
+  pub removed-at : (j : ℕ) → j < n - 1 → at (removed l n i) j ≡ at l (stood i j)
   removed-at j low =
       ap (λ (m : List ℕ). at m j) removed-cut
       ∙ ⊎-elim
@@ -262,7 +262,7 @@ found-there k (y ∷ ys) x (suc i) h e =
     by-test (λ (f : Found). isFound f ≡ true) (eqb y x) (λ t. refl) (λ t. found-there (suc k) ys x i (le-of-suc-le-suc h) e)
 
 -- so what does not stand in the list is at no place in use
-stands-nowhere : (l : List ℕ) (n x : ℕ) → n ≤ length l → stands l n x ≡ false → (i : ℕ) → i < n → at l i ≡ x → ⊥
+pub stands-nowhere : (l : List ℕ) (n x : ℕ) → n ≤ length l → stands l n x ≡ false → (i : ℕ) → i < n → at l i ≡ x → ⊥
 stands-nowhere l n x fits e i low f =
     never (found-there 0 (take n l) x i (omega (arith, length-take-le n l fits)) (getD-take n l i 0 low ∙ f)) e
 
