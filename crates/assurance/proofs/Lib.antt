@@ -15,3 +15,5 @@ pub mod Reached
 pub mod Demand1
 pub mod Starred
 pub mod LeafLists
+pub mod LentLinks
+pub mod Knows

@@ -44,7 +44,7 @@ module _ (tags : ℕ) (rows : List TagRow) (row : TagRow) where
       let low : t .0 < i = ltb-true _ _ (and-left _ _ e) in rw (getD-set-other rows tags (t .0) row noTag (λ q. omega arith)) e
 
   -- what holds of the new row and of each before it holds of each row up to the new one
-  pub tags-each :
+  tags-each :
       (P : ℕ → TagRow → Type 0) → tags < length rows → P tags row → ((i : ℕ) → i < tags → P i (tagAt rows i)) → (i : ℕ) → i < tags + 1
       → P i (tagAt (set rows tags row) i)
   tags-each P room new old i h =
