@@ -23,7 +23,7 @@ use Rattle.link_rules.proofs.RuleLaws.{LinksHold}
 use Rattle.link_rules.proofs.FillLaws.{tag-parts}
 use Rattle.kept.proofs.LinksKept.{ofTag, Parts, number-parts, names-parts, linked-at, stood, removed-at, stands-nowhere}
 use Rattle.assurance.specs.Leaves.{link, withdrawn}
-use Rattle.assurance.proofs.LeafLists.{Same, same-then, withdrawn-both, withdrawn-one}
+use Rattle.assurance.proofs.LeafLists.{Same, same-then, given-both, withdrawn-both, given-again, withdrawn-none, withdrawn-one}
 
 -- ---- where a number is found
 
@@ -83,20 +83,20 @@ module _ (l : List ℕ) (n t p q : ℕ) (near : p < 64) (far : q < 64) where
       (subst (λ (y : ℕ). Names (t * 256) y p q) (sym (getD-take n l i 0 low ∙ e)) names)
 
   -- where it is found
-  pub found-place : (i : ℕ) → findIn (take n l) x ≡ At i → (i < n) × (i < length l) × (at l i ≡ x)
+  found-place : (i : ℕ) → findIn (take n l) x ≡ At i → (i < n) × (i < length l) × (at l i ≡ x)
   found-place i e =
       let w = found-at 0 (take n l) x i e in
       let same : i ≡ w .0 = omega (arith, w .1) in
       let low : i < n = omega (arith, same, w .2, length-take n l) in
       (low, omega (arith, same, w .2, length-take n l), sym (getD-take n l i 0 low) ∙ ap (at (take n l)) same ∙ w .3)
 
-  pub standing : stands l n x ≡ true → joins (ofTag l n t) p q ≡ true
+  standing : stands l n x ≡ true → joins (ofTag l n t) p q ≡ true
   standing e =
       let f = found-some (findIn (take n l) x) e in
       let w = found-place (f .0) (f .1) in
       place-linked (f .0) (w .0) (w .1) (w .2)
 
-  pub not-standing : n ≤ length l → findIn (take n l) x ≡ Nothing → joins (ofTag l n t) p q ≡ false
+  not-standing : n ≤ length l → findIn (take n l) x ≡ Nothing → joins (ofTag l n t) p q ≡ false
   not-standing fits e =
       ⊎-elim
       (λ h. let w = linked-at l n t p q h in absurd (stands-nowhere l n x fits (ap isFound e) (w .0) (w .1) (parts-number (at l (w .0)) (w .2))))
@@ -105,7 +105,7 @@ module _ (l : List ℕ) (n t p q : ℕ) (near : p < 64) (far : q < 64) where
 
   -- ---- it is appended
 
-  pub appended-own : n < length l → Same (link p q ∷ ofTag l n t) (ofTag (appended l n x) (n + 1) t)
+  appended-own : n < length l → Same (link p q ∷ ofTag l n t) (ofTag (appended l n x) (n + 1) t)
   appended-own room =
       record {
         joined = λ a b.
@@ -145,13 +145,36 @@ module _ (l : List ℕ) (n t p q : ℕ) (near : p < 64) (far : q < 64) where
         (λ h. h)
         (either (joins (ofTag less (n - 1) t) p q))
 
-    pub removed-own : Same (withdrawn (ofTag l n t) p q) (ofTag less (n - 1) t)
+    removed-own : Same (ofTag l n t) (link p q ∷ ofTag less (n - 1) t)
     removed-own =
-        let g = OfTag (record { 0 = t }) in
-        let e : isLinkOf (t * 256) (at l i) ≡ true = ap (isLinkOf (t * 256)) there ∙ own-link in
-        let before : Same (ofTag l n t) (link p q ∷ ofTag less (n - 1) t) =
-        record { joined = λ a b. removed-joins l n i g low fits e a b ∙ ap (λ (k : Link). joins (k ∷ ofTag less (n - 1) t) a b) (ap (said (t * 256)) there ∙ says) } in
-        same-then (withdrawn-both p q before) (withdrawn-one (ofTag less (n - 1) t) p q gone)
+        let own : isLinkOf (t * 256) (at l i) ≡ true = ap (isLinkOf (t * 256)) there ∙ own-link in
+        record {
+          joined = λ a b.
+              removed-joins l n i (OfTag (record { 0 = t })) low fits own a b
+              ∙ ap (λ (k : Link). joins (k ∷ ofTag less (n - 1) t) a b) (ap (said (t * 256)) there ∙ says);
+        }
 
     pub removed-apart : (u : ℕ) → (u ≡ t → ⊥) → ofTag l n u ≡ ofTag less (n - 1) u
     removed-apart u apart = removed-other l n i (OfTag (record { 0 = u })) low fits (ap (isLinkOf (u * 256)) there ∙ other-link u apart)
+
+  -- ---- leaves that are the links of tag t stay so
+
+  module _ {ks : List Link} (same : Same ks (ofTag l n t)) where
+    -- a leave given that was there
+    pub leaf-had : stands l n x ≡ true → Same (link p q ∷ ks) (ofTag l n t)
+    leaf-had e = same-then (given-both p q same) (given-again (ofTag l n t) p q (standing e))
+
+    -- one that was not
+    pub leaf-given : n < length l → Same (link p q ∷ ks) (ofTag (appended l n x) (n + 1) t)
+    leaf-given room = same-then (given-both p q same) (appended-own room)
+
+    -- a leave withdrawn that was not there
+    pub leaf-lacked : n ≤ length l → findIn (take n l) x ≡ Nothing → Same (withdrawn ks p q) (ofTag l n t)
+    leaf-lacked fits e = same-then (withdrawn-both p q same) (withdrawn-none (ofTag l n t) p q (not-standing fits e))
+
+    -- one that was
+    pub leaf-taken :
+        {tags principals : ℕ} → LinksHold l n tags principals → (i : ℕ) → findIn (take n l) x ≡ At i →
+        Same (withdrawn ks p q) (ofTag (removed l n i) (n - 1) t)
+    leaf-taken holds i e =
+        same-then (withdrawn-both p q (same-then same (removed-own holds i e))) (withdrawn-one (ofTag (removed l n i) (n - 1) t) p q (gone holds i e))

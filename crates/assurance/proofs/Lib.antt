@@ -17,3 +17,4 @@ pub mod Starred
 pub mod LeafLists
 pub mod LentLinks
 pub mod Knows
+pub mod LeavesKept
