@@ -30,11 +30,11 @@ use Rattle.assurance.proofs.LeafLists.{Same}
 
 -- ---- what a row says
 
-abbrev subtagIn : Rank → Bool
+abbrev pub subtagIn : Rank → Bool
 subtagIn Supertag = false
 subtagIn (SubtagOf t) = true
 
-abbrev aboveIn : Rank → ℕ
+abbrev pub aboveIn : Rank → ℕ
 aboveIn Supertag = 0
 aboveIn (SubtagOf t) = t .0
 

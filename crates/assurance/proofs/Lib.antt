@@ -18,3 +18,4 @@ pub mod LeafLists
 pub mod LentLinks
 pub mod Knows
 pub mod LeavesKept
+pub mod AuthorityPath

@@ -71,7 +71,7 @@ module _ (z : Machine) (sound : Sound z) (f : List ℕ) where
 
   -- the question is reached
   module _ (reached : asksOne t (z .world .links) (z .world .grants) f ≡ true) where
-    gives : (s .caller .live ≡ true) × (named s (requestOf f) ≡ true)
+    pub gives : (s .caller .live ≡ true) × (named s (requestOf f) ≡ true)
     gives = passed-gives s (kindOf f) (requestOf f) (and-left (passes (checked t (z .world .links) (z .world .grants) f)) (asks s (requestOf f)) (and-right (wellFormed f) _ reached))
 
     -- the caller's row is one of the 16, and what it names is made

@@ -1,0 +1,143 @@
+-- Each authority answer is yes exactly when the papers' path exists over the leaves, for every list of requests from the fresh state.
+-- Assumes nothing.
+use mathlib.Core.Path.{_≡_, refl, sym, ap, subst, _∙_}
+use mathlib.Core.Bool.{Bool, true, false, not}
+use mathlib.Core.List.{List, [], _∷_}
+use mathlib.Core.Logic.{_⊎_, _↔_, inl, inr, ⊎-elim}
+use Prim.Native.Nat.{ℕ, zero, suc, _<_}
+use native.Mathlib.Omega.{arith}
+use borrow.Author.Tests.{ltb-true}
+use lib.Dec.{ltb}
+use lib.ListN.{length}
+use Rattle.numbers.specs.declared.Principal.{Principal}
+use Rattle.numbers.specs.declared.Tag.{Tag}
+use Rattle.numbers.proofs.Bools.{and-right, either, never}
+use Rattle.links.specs.declared.lists.Graph.the-variants.{Principals}
+use Rattle.links.specs.Paths.{Link}
+use Rattle.links.specs.Links.{linksIn}
+use Rattle.links.specs.Authority.{ActsForSome, Authoritative, authoritative}
+use Rattle.links.proofs.PathLaws.{path-grows}
+use Rattle.links.proofs.AuthorityLaws.{RootsMade, authoritative-is}
+use Rattle.tables.specs.declared.rows.Rank.{Rank}
+use Rattle.tables.specs.declared.rows.Rank.the-variants.{Supertag, SubtagOf}
+use Rattle.tables.specs.Things.{tagAt, lineageBy, lineageOf}
+use Rattle.row_rules.specs.RowRules.{supertagMade}
+use Rattle.frames.specs.Requests.{threadOf, requestOf}
+use Rattle.sight.specs.Sight.{tagNamed}
+use Rattle.step.specs.World.{World}
+use Rattle.step.specs.Step.{After, asksOne, asked, seen, walked}
+use Rattle.monitor.specs.Monitor.{shortestBuffer}
+use Rattle.monitor.proofs.Entering.{when-short}
+use Rattle.kept.proofs.LinksKept.{ofTag}
+use Rattle.assurance.specs.Runs.{Call, Machine, fresh, entered, worldAfter, next, clearedIf}
+use Rattle.assurance.specs.Leaves.{Known, Made, runner, atFirst}
+use Rattle.assurance.specs.Demands.{PathFrom, LeavesReach, answerIn, PathDecides, PathsDecide, learns, AuthorityIsThePath}
+use Rattle.assurance.proofs.Sound.{Sound}
+use Rattle.assurance.proofs.Worlds.{WorldHolds, SizedWorld, world-rules}
+use Rattle.assurance.proofs.Questions.{gives, tag-made}
+use Rattle.assurance.proofs.Reference.{answers-as-walk, enters-step}
+use Rattle.assurance.proofs.Kept.{cleared-sound, next-sound}
+use Rattle.assurance.proofs.Fresh.{fresh-sound}
+use Rattle.assurance.proofs.LeafLists.{Same}
+use Rattle.assurance.proofs.Knows.{subtagIn, aboveIn, madeBy, Knows, fresh-known}
+use Rattle.assurance.proofs.LeavesKept.{outcome-learns}
+
+-- ---- paths over the same links
+
+acts-same : {ls ms gs hs : List Link} {root p : Principal} → Same ls ms → Same gs hs → ActsForSome ls gs root p ↔ ActsForSome ms hs root p
+acts-same f g = (
+  λ w. record { node = w .node; counted = path-grows (λ a b e. sym (g .joined a b) ∙ e) (w .counted); acts = path-grows (λ a b e. sym (f .joined a b) ∙ e) (w .acts) },
+  λ w. record { node = w .node; counted = path-grows (λ a b e. g .joined a b ∙ e) (w .counted); acts = path-grows (λ a b e. f .joined a b ∙ e) (w .acts) },
+)
+
+module _ (k : Known) (w : World) (holds : WorldHolds w) (knows : Knows k w) (p : Principal) where
+  -- the principal links
+  abbrev between : List Link
+  between = linksIn (w .links) (w .tables .links) Principals
+
+  -- a path from a tag's maker
+  own-path : (t : ℕ) → t < w .tables .tags → PathFrom k t (p .0) ↔ ActsForSome between (ofTag (w .grants) (w .tables .grants) t) (tagAt (w .tables .kinds) t .root) p
+  own-path t low = rw (knows .tags t low) (acts-same (knows .links) (knows .grants t))
+
+  -- a tag of this rank
+  by-rank :
+      (t : Tag) → t .0 < w .tables .tags → (r : Rank) → supertagMade (w .tables .tags) r ≡ true →
+      Authoritative between (w .grants) (w .tables .grants) (lineageBy (w .tables .kinds) t r) p
+      ↔ (PathFrom k (t .0) (p .0) ⊎ ((subtagIn r ≡ true) × PathFrom k (aboveIn r) (p .0)))
+  by-rank t low Supertag e =
+      let own = own-path (t .0) low in
+      (λ x. inl (own .1 x), λ x. ⊎-elim (own .0) (λ y. absurd (never (y .0) refl)) x)
+  by-rank t low (SubtagOf u) e =
+      let own = own-path (t .0) low in
+      let over = own-path (u .0) (ltb-true (u .0) (w .tables .tags) e) in
+      (λ x. ⊎-elim (λ y. inl (own .1 y)) (λ y. inr (refl, over .1 y)) x, λ x. ⊎-elim (λ y. inl (own .0 y)) (λ y. inr (over .0 (y .1))) x)
+
+  -- the roots are made
+  roots-made : (t : Tag) → t .0 < w .tables .tags → (r : Rank) → supertagMade (w .tables .tags) r ≡ true → RootsMade (lineageBy (w .tables .kinds) t r)
+  roots-made t low Supertag e = omega (arith, holds .tags .roots (t .0) low, holds .links .limits .principals-low)
+  roots-made t low (SubtagOf u) e = (
+    omega (arith, holds .tags .roots (t .0) low, holds .links .limits .principals-low),
+    omega (arith, holds .tags .roots (u .0) (ltb-true (u .0) (w .tables .tags) e), holds .links .limits .principals-low),
+  )
+
+  -- the walk says yes exactly where the leaves reach
+  walk-reaches : (t : Tag) → t .0 < w .tables .tags → (authoritative between (w .grants) (w .tables .grants) (lineageOf (w .tables .kinds) t) p ≡ true) ↔ LeavesReach k (t .0) (p .0)
+  walk-reaches t low =
+      let r = tagAt (w .tables .kinds) (t .0) .rank in
+      let made = holds .tags .supertags (t .0) low in
+      let walk = authoritative-is between (w .grants) (w .tables .grants) (lineageBy (w .tables .kinds) t r) p (roots-made t low r made) in
+      let reach =
+      subst (λ (m : Made). Authoritative between (w .grants) (w .tables .grants) (lineageBy (w .tables .kinds) t r) p ↔ (PathFrom k (t .0) (p .0) ⊎ ((m .isSubtag ≡ true) × PathFrom k (m .above) (p .0)))) (sym (knows .tags (t .0) low))
+      (by-rank t low r made) in
+      (λ e. reach .0 (walk .0 e), λ x. walk .1 (reach .1 x))
+
+-- ---- one request of a sound machine
+
+module _ (z : Machine) (sound : Sound z) (k : Known) (knows : Knows k (z .world)) (c : Call) where
+  abbrev w : World
+  w = z .world
+
+  abbrev f : List ℕ
+  f = c .frame
+
+  holds : WorldHolds w
+  holds = world-rules w (z .memory) (sound .rules)
+
+  -- its authority answer
+  path-decides : PathDecides z k c
+  path-decides asking =
+      let reached = and-right (not (ltb (length (c .buffer)) shortestBuffer)) (asksOne (w .tables) (w .links) (w .grants) f) asking in
+      let s = seen (w .tables) (w .links) (w .grants) f in
+      let same : answerIn z c ≡ walked s (w .links) (w .grants) (requestOf f) = answers-as-walk z sound f ∙ rw reached in
+      let runs : runner (k .runs (threadOf f .0)) ≡ s .caller .principal .0 = ap runner (knows .runs (threadOf f .0) (gives z sound f reached .0) .list) in
+      let reach = walk-reaches k w holds knows (s .caller .principal) (tagNamed (requestOf f)) (tag-made z sound f reached) in
+      rw (same, runs) reach
+
+  -- what is known after it
+  next-knows : Knows (learns k c (entered z c)) (next z c .world)
+  next-knows =
+      let sized : SizedWorld w = record { threads = sound .sized .threads; kinds = sound .sized .kinds; objects = sound .sized .objects } in
+      let P : After → Type 0 = λ r. Knows (learns k c r) (worldAfter r) in
+      ⊎-elim
+      (λ e. subst P (when-short (record { tables = w .tables; memory = z .memory }) (w .links) (w .grants) (w .store) f (c .buffer) e) knows)
+      (λ e. subst P (sym (enters-step z sound c e)) (outcome-learns k w holds sized knows f (c .buffer) (asked (w .tables) (w .links) (w .grants) f (z .memory) .yes)))
+      (either (ltb (length (c .buffer)) shortestBuffer))
+
+-- ---- a list of requests
+
+-- clearing leaves the world
+cleared-knows : (clear : Bool) (z : Machine) {k : Known} → Knows k (z .world) → Knows k (clearedIf clear z .world)
+cleared-knows true z knows = knows
+cleared-knows false z knows = knows
+
+paths-decide : (z : Machine) → Sound z → (k : Known) → Knows k (z .world) → (clears : ℕ → Bool) (cs : List Call) → PathsDecide z k clears cs
+unfolding PathsDecide
+paths-decide z sound k knows clears [] = tt
+paths-decide z sound k knows clears (c ∷ cs) =
+    let y = clearedIf (clears zero) z in
+    let s = cleared-sound z sound (clears zero) in
+    let h = cleared-knows (clears zero) z knows in
+    (path-decides y s k h c, paths-decide (next y c) (next-sound y s c) (learns k c (entered y c)) (next-knows y s k h c) (λ n. clears (suc n)) cs)
+
+pub authority-is-the-path : AuthorityIsThePath
+authority-is-the-path size few clears calls = paths-decide (fresh size) (fresh-sound size few) atFirst (fresh-known size) clears calls
