@@ -39,7 +39,7 @@ use Rattle.assurance.proofs.Reference.{answers-as-walk, enters-step}
 use Rattle.assurance.proofs.Kept.{cleared-sound, next-sound}
 use Rattle.assurance.proofs.Fresh.{fresh-sound}
 use Rattle.assurance.proofs.LeafLists.{Same}
-use Rattle.assurance.proofs.Knows.{subtagIn, aboveIn, madeBy, Knows, fresh-known}
+use Rattle.assurance.proofs.Knows.{subtagIn, aboveIn, Knows, fresh-known}
 use Rattle.assurance.proofs.LeavesKept.{outcome-learns}
 
 -- ---- paths over the same links

@@ -17,5 +17,6 @@ pub mod Starred
 pub mod LeafLists
 pub mod LentLinks
 pub mod Knows
+pub mod Learnt
 pub mod LeavesKept
 pub mod AuthorityPath
