@@ -18,6 +18,7 @@ use Rattle.links.specs.Links.{linksIn}
 use Rattle.links.specs.Authority.{ActsForSome, Authoritative, authoritative}
 use Rattle.links.proofs.PathLaws.{path-grows}
 use Rattle.links.proofs.AuthorityLaws.{RootsMade, authoritative-is}
+use Rattle.tables.specs.declared.Tables.{Tables}
 use Rattle.tables.specs.declared.rows.Rank.{Rank}
 use Rattle.tables.specs.declared.rows.Rank.the-variants.{Supertag, SubtagOf}
 use Rattle.tables.specs.Things.{tagAt, lineageBy, lineageOf}
@@ -25,7 +26,7 @@ use Rattle.row_rules.specs.RowRules.{supertagMade}
 use Rattle.frames.specs.Requests.{threadOf, requestOf}
 use Rattle.sight.specs.Sight.{tagNamed}
 use Rattle.step.specs.World.{World}
-use Rattle.step.specs.Step.{After, asksOne, asked, seen, walked}
+use Rattle.step.specs.Step.{After, asksOne, seen, walked}
 use Rattle.monitor.specs.Monitor.{shortestBuffer}
 use Rattle.monitor.proofs.Entering.{when-short}
 use Rattle.kept.proofs.LinksKept.{ofTag}
@@ -38,57 +39,65 @@ use Rattle.assurance.proofs.Questions.{gives, tag-made}
 use Rattle.assurance.proofs.Reference.{answers-as-walk, enters-step}
 use Rattle.assurance.proofs.Kept.{cleared-sound, next-sound}
 use Rattle.assurance.proofs.Fresh.{fresh-sound}
-use Rattle.assurance.proofs.LeafLists.{Same}
+use Rattle.assurance.proofs.LeafLists.{Same, same-back}
 use Rattle.assurance.proofs.Knows.{subtagIn, aboveIn, Knows, fresh-known}
 use Rattle.assurance.proofs.LeavesKept.{outcome-learns}
 
--- ---- paths over the same links
+-- ---- paths
 
-acts-same : {ls ms gs hs : List Link} {root p : Principal} → Same ls ms → Same gs hs → ActsForSome ls gs root p ↔ ActsForSome ms hs root p
-acts-same f g = (
-  λ w. record { node = w .node; counted = path-grows (λ a b e. sym (g .joined a b) ∙ e) (w .counted); acts = path-grows (λ a b e. sym (f .joined a b) ∙ e) (w .acts) },
-  λ w. record { node = w .node; counted = path-grows (λ a b e. g .joined a b ∙ e) (w .counted); acts = path-grows (λ a b e. f .joined a b ∙ e) (w .acts) },
-)
+-- the same links give the same paths
+acts-over : {ls ms gs hs : List Link} {root p : Principal} → Same ls ms → Same gs hs → ActsForSome ls gs root p → ActsForSome ms hs root p
+acts-over f g w =
+    record {
+      node = w .node;
+      counted = path-grows (λ a b e. sym (g .joined a b) ∙ e) (w .counted);
+      acts = path-grows (λ a b e. sym (f .joined a b) ∙ e) (w .acts);
+    }
 
 module _ (k : Known) (w : World) (holds : WorldHolds w) (knows : Knows k w) (p : Principal) where
+  abbrev t : Tables
+  t = w .tables
+
   -- the principal links
   abbrev between : List Link
-  between = linksIn (w .links) (w .tables .links) Principals
+  between = linksIn (w .links) (t .links) Principals
 
-  -- a path from a tag's maker
-  own-path : (t : ℕ) → t < w .tables .tags → PathFrom k t (p .0) ↔ ActsForSome between (ofTag (w .grants) (w .tables .grants) t) (tagAt (w .tables .kinds) t .root) p
-  own-path t low = rw (knows .tags t low) (acts-same (knows .links) (knows .grants t))
+  -- a path from the maker of tag u
+  own-path : (u : ℕ) → u < t .tags → PathFrom k u (p .0) ↔ ActsForSome between (ofTag (w .grants) (t .grants) u) (tagAt (t .kinds) u .root) p
+  own-path u low =
+      rw (knows .tags u low) (acts-over (knows .links) (knows .grants u), acts-over (same-back (knows .links)) (same-back (knows .grants u)))
 
-  -- a tag of this rank
-  by-rank :
-      (t : Tag) → t .0 < w .tables .tags → (r : Rank) → supertagMade (w .tables .tags) r ≡ true →
-      Authoritative between (w .grants) (w .tables .grants) (lineageBy (w .tables .kinds) t r) p
-      ↔ (PathFrom k (t .0) (p .0) ⊎ ((subtagIn r ≡ true) × PathFrom k (aboveIn r) (p .0)))
-  by-rank t low Supertag e =
-      let own = own-path (t .0) low in
+  -- p is authoritative for tag u, where r is its rank; the leaves of tag u reach p, where m says what it is
+  abbrev Walked : Tag → Rank → Type 0
+  Walked u r = Authoritative between (w .grants) (t .grants) (lineageBy (t .kinds) u r) p
+
+  abbrev Reached : Tag → Bool → ℕ → Type 0
+  Reached u isSubtag above = PathFrom k (u .0) (p .0) ⊎ ((isSubtag ≡ true) × PathFrom k above (p .0))
+
+  by-rank : (u : Tag) → u .0 < t .tags → (r : Rank) → supertagMade (t .tags) r ≡ true → Walked u r ↔ Reached u (subtagIn r) (aboveIn r)
+  by-rank u low Supertag e =
+      let own = own-path (u .0) low in
       (λ x. inl (own .1 x), λ x. ⊎-elim (own .0) (λ y. absurd (never (y .0) refl)) x)
-  by-rank t low (SubtagOf u) e =
-      let own = own-path (t .0) low in
-      let over = own-path (u .0) (ltb-true (u .0) (w .tables .tags) e) in
+  by-rank u low (SubtagOf above) e =
+      let own = own-path (u .0) low in
+      let over = own-path (above .0) (ltb-true (above .0) (t .tags) e) in
       (λ x. ⊎-elim (λ y. inl (own .1 y)) (λ y. inr (refl, over .1 y)) x, λ x. ⊎-elim (λ y. inl (own .0 y)) (λ y. inr (over .0 (y .1))) x)
 
-  -- the roots are made
-  roots-made : (t : Tag) → t .0 < w .tables .tags → (r : Rank) → supertagMade (w .tables .tags) r ≡ true → RootsMade (lineageBy (w .tables .kinds) t r)
-  roots-made t low Supertag e = omega (arith, holds .tags .roots (t .0) low, holds .links .limits .principals-low)
-  roots-made t low (SubtagOf u) e = (
-    omega (arith, holds .tags .roots (t .0) low, holds .links .limits .principals-low),
-    omega (arith, holds .tags .roots (u .0) (ltb-true (u .0) (w .tables .tags) e), holds .links .limits .principals-low),
-  )
+  -- a made tag's root is made, and so is that of its supertag
+  root-low : (u : ℕ) → u < t .tags → tagAt (t .kinds) u .root .0 < 64
+  root-low u low = omega (arith, holds .tags .roots u low, holds .links .limits .principals-low)
+
+  roots-made : (u : Tag) → u .0 < t .tags → (r : Rank) → supertagMade (t .tags) r ≡ true → RootsMade (lineageBy (t .kinds) u r)
+  roots-made u low Supertag e = root-low (u .0) low
+  roots-made u low (SubtagOf above) e = (root-low (u .0) low, root-low (above .0) (ltb-true (above .0) (t .tags) e))
 
   -- the walk says yes exactly where the leaves reach
-  walk-reaches : (t : Tag) → t .0 < w .tables .tags → (authoritative between (w .grants) (w .tables .grants) (lineageOf (w .tables .kinds) t) p ≡ true) ↔ LeavesReach k (t .0) (p .0)
-  walk-reaches t low =
-      let r = tagAt (w .tables .kinds) (t .0) .rank in
-      let made = holds .tags .supertags (t .0) low in
-      let walk = authoritative-is between (w .grants) (w .tables .grants) (lineageBy (w .tables .kinds) t r) p (roots-made t low r made) in
-      let reach =
-      subst (λ (m : Made). Authoritative between (w .grants) (w .tables .grants) (lineageBy (w .tables .kinds) t r) p ↔ (PathFrom k (t .0) (p .0) ⊎ ((m .isSubtag ≡ true) × PathFrom k (m .above) (p .0)))) (sym (knows .tags (t .0) low))
-      (by-rank t low r made) in
+  walk-reaches : (u : Tag) → u .0 < t .tags → (authoritative between (w .grants) (t .grants) (lineageOf (t .kinds) u) p ≡ true) ↔ LeavesReach k (u .0) (p .0)
+  walk-reaches u low =
+      let r = tagAt (t .kinds) (u .0) .rank in
+      let made = holds .tags .supertags (u .0) low in
+      let walk = authoritative-is between (w .grants) (t .grants) (lineageBy (t .kinds) u r) p (roots-made u low r made) in
+      let reach = subst (λ (m : Made). Walked u r ↔ Reached u (m .isSubtag) (m .above)) (sym (knows .tags (u .0) low)) (by-rank u low r made) in
       (λ e. reach .0 (walk .0 e), λ x. walk .1 (reach .1 x))
 
 -- ---- one request of a sound machine
@@ -100,6 +109,7 @@ module _ (z : Machine) (sound : Sound z) (k : Known) (knows : Knows k (z .world)
   abbrev f : List ℕ
   f = c .frame
 
+  -- it breaks no rule
   holds : WorldHolds w
   holds = world-rules w (z .memory) (sound .rules)
 
@@ -109,7 +119,8 @@ module _ (z : Machine) (sound : Sound z) (k : Known) (knows : Knows k (z .world)
       let reached = and-right (not (ltb (length (c .buffer)) shortestBuffer)) (asksOne (w .tables) (w .links) (w .grants) f) asking in
       let s = seen (w .tables) (w .links) (w .grants) f in
       let same : answerIn z c ≡ walked s (w .links) (w .grants) (requestOf f) = answers-as-walk z sound f ∙ rw reached in
-      let runs : runner (k .runs (threadOf f .0)) ≡ s .caller .principal .0 = ap runner (knows .runs (threadOf f .0) (gives z sound f reached .0) .list) in
+      let n = threadOf f .0 in
+      let runs : runner (k .runs n) ≡ s .caller .principal .0 = ap runner (knows .runs n (gives z sound f reached .0) .list) in
       let reach = walk-reaches k w holds knows (s .caller .principal) (tagNamed (requestOf f)) (tag-made z sound f reached) in
       rw (same, runs) reach
 
@@ -120,7 +131,7 @@ module _ (z : Machine) (sound : Sound z) (k : Known) (knows : Knows k (z .world)
       let P : After → Type 0 = λ r. Knows (learns k c r) (worldAfter r) in
       ⊎-elim
       (λ e. subst P (when-short (record { tables = w .tables; memory = z .memory }) (w .links) (w .grants) (w .store) f (c .buffer) e) knows)
-      (λ e. subst P (sym (enters-step z sound c e)) (outcome-learns k w holds sized knows f (c .buffer) (asked (w .tables) (w .links) (w .grants) f (z .memory) .yes)))
+      (λ e. subst P (sym (enters-step z sound c e)) (outcome-learns k w holds sized knows f (c .buffer) (answerIn z c)))
       (either (ltb (length (c .buffer)) shortestBuffer))
 
 -- ---- a list of requests
@@ -130,6 +141,7 @@ cleared-knows : (clear : Bool) (z : Machine) {k : Known} → Knows k (z .world) 
 cleared-knows true z knows = knows
 cleared-knows false z knows = knows
 
+-- each answer is the path, whatever was cleared
 paths-decide : (z : Machine) → Sound z → (k : Known) → Knows k (z .world) → (clears : ℕ → Bool) (cs : List Call) → PathsDecide z k clears cs
 unfolding PathsDecide
 paths-decide z sound k knows clears [] = tt

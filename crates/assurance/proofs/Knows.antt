@@ -30,6 +30,7 @@ use Rattle.assurance.proofs.LeafLists.{Same}
 
 -- ---- what a row says
 
+-- whether a tag of this rank is a subtag, and of which
 abbrev pub subtagIn : Rank → Bool
 subtagIn Supertag = false
 subtagIn (SubtagOf t) = true
@@ -56,23 +57,33 @@ pub record Ran (l : List ℕ) (r : ThreadRow) : Type 0 where
   pub list : l ≡ runsAs r
   pub places : length (r .aside) ≡ mostPutAside
 
--- ---- the whole
+-- of each made tag, its maker and what it is
+abbrev pub TagsTold : (ℕ → Made) → ℕ → List TagRow → Type 0
+TagsTold known tags rows = (t : ℕ) → t < tags → known t ≡ madeBy (tagAt rows t)
+
+-- of each live thread, who it runs as
+abbrev pub RunsTold : (ℕ → List ℕ) → List ThreadRow → Type 0
+RunsTold known rows = (n : ℕ) → threadAt rows n .live ≡ true → Ran (known n) (threadAt rows n)
+
+-- ---- the whole; a principal link is one of tag 0
 
 pub record Knows (k : Known) (w : World) : Type 0 where
   pub links : Same (k .links) (ofTag (w .links) (w .tables .links) 0)
   pub grants : (t : ℕ) → Same (k .grants t) (ofTag (w .grants) (w .tables .grants) t)
-  pub tags : (t : ℕ) → t < w .tables .tags → k .tags t ≡ madeBy (tagAt (w .tables .kinds) t)
-  pub runs : (n : ℕ) → threadAt (w .tables .threads) n .live ≡ true → Ran (k .runs n) (threadAt (w .tables .threads) n)
+  pub tags : TagsTold (k .tags) (w .tables .tags) (w .tables .kinds)
+  pub runs : RunsTold (k .runs) (w .tables .threads)
 
 -- ---- the fresh world
 
-fresh-runs : (n : ℕ) → threadAt (freshTables .threads) n .live ≡ true → Ran (atFirst .runs n) (threadAt (freshTables .threads) n)
+-- thread 0 runs as the office, and no other is live
+fresh-runs : RunsTold (atFirst .runs) (freshTables .threads)
 unfolding putAside
 fresh-runs zero live = record { list = refl; places = refl }
 fresh-runs (suc n) live =
     let low = live-among (freshTables .threads) (suc n) live in
     absurd (never live (ap (λ (r : ThreadRow). r .live) (getD-replicate 15 n noThread pastThread (omega arith))))
 
+-- there is nothing else to know
 pub fresh-known : (size : ℕ) → Knows atFirst (fresh size .world)
 unfolding linksFrom
 fresh-known size =
@@ -89,6 +100,7 @@ fresh-known size =
 pub by-number : (P : ℕ → Type 0) (n : ℕ) → P n → ((j : ℕ) → (j ≡ n → ⊥) → P j) → (j : ℕ) → P j
 by-number P n own other j = ⊎-elim (λ e. subst P (sym (eqb-true j n e)) own) (λ e. other j (eqb-false j n e)) (either (eqb j n))
 
+-- a function with one value changed, there and elsewhere
 module _ {A : Type 0} (f : ℕ → A) (n : ℕ) (x : A) where
   pub changed-own : changed f n x n ≡ x
   changed-own = rw (eq-eqb n n refl)
@@ -96,28 +108,30 @@ module _ {A : Type 0} (f : ℕ → A) (n : ℕ) (x : A) where
   pub changed-other : (j : ℕ) → (j ≡ n → ⊥) → changed f n x j ≡ f j
   changed-other j apart = rw (ne-eqb n j (λ e. apart (sym e)))
 
--- a row more for the tag that is made next
+-- a row more, for the tag that is made next
 pub tags-known :
-    (known : ℕ → Made) (tags : ℕ) (rows : List TagRow) (row : TagRow) → tags < length rows →
-    ((t : ℕ) → t < tags → known t ≡ madeBy (tagAt rows t)) →
-    (t : ℕ) → t < tags + 1 → changed known tags (madeBy row) t ≡ madeBy (tagAt (set rows tags row) t)
+    (known : ℕ → Made) (tags : ℕ) (rows : List TagRow) (row : TagRow) → tags < length rows → TagsTold known tags rows →
+    TagsTold (changed known tags (madeBy row)) (tags + 1) (set rows tags row)
 tags-known known tags rows row room old =
     by-number (λ t. t < tags + 1 → changed known tags (madeBy row) t ≡ madeBy (tagAt (set rows tags row) t)) tags
     (λ h. changed-own known tags (madeBy row) ∙ ap madeBy (sym (getD-set-same rows tags row noTag room)))
     (λ t apart h. changed-other known tags (madeBy row) t apart ∙ old t (omega arith) ∙ ap madeBy (sym (getD-set-other rows tags t row noTag apart)))
 
-module _ (known : ℕ → List ℕ) (rows : List ThreadRow) (n : ℕ) (r : ThreadRow) (room : n < length rows) (old : (j : ℕ) → threadAt rows j .live ≡ true → Ran (known j) (threadAt rows j)) where
+module _ (known : ℕ → List ℕ) (rows : List ThreadRow) (n : ℕ) (r : ThreadRow) (room : n < length rows) (old : RunsTold known rows) where
+  abbrev rowAt : ℕ → ThreadRow
+  rowAt j = threadAt (set rows n r) j
+
   -- a thread's row is another, and what is known of it
-  pub runs-known : (l : List ℕ) → (r .live ≡ true → Ran l r) → (j : ℕ) → threadAt (set rows n r) j .live ≡ true → Ran (changed known n l j) (threadAt (set rows n r) j)
+  pub runs-known : (l : List ℕ) → (r .live ≡ true → Ran l r) → RunsTold (changed known n l) (set rows n r)
   runs-known l new =
-      by-number (λ j. threadAt (set rows n r) j .live ≡ true → Ran (changed known n l j) (threadAt (set rows n r) j)) n
+      by-number (λ j. rowAt j .live ≡ true → Ran (changed known n l j) (rowAt j)) n
       (rw (changed-own known n l, getD-set-same rows n r pastThread room) new)
       (λ j apart. rw (changed-other known n l j apart, getD-set-other rows n j r pastThread apart) (old j))
 
   -- who it runs as stays
-  pub runs-stay : (r .live ≡ true → Ran (known n) r) → (j : ℕ) → threadAt (set rows n r) j .live ≡ true → Ran (known j) (threadAt (set rows n r) j)
+  pub runs-stay : (r .live ≡ true → Ran (known n) r) → RunsTold known (set rows n r)
   runs-stay new =
-      by-number (λ j. threadAt (set rows n r) j .live ≡ true → Ran (known j) (threadAt (set rows n r) j)) n
+      by-number (λ j. rowAt j .live ≡ true → Ran (known j) (rowAt j)) n
       (rw (getD-set-same rows n r pastThread room) new) (λ j apart. rw (getD-set-other rows n j r pastThread apart) (old j))
 
 -- ---- calls
@@ -134,11 +148,13 @@ module _ {l : List ℕ} {r : ThreadRow} (ran : Ran l r) where
   pub called-ran : (p : Principal) → r .calls < mostPutAside → Ran (p .0 ∷ l) (called r p)
   unfolding putAside
   called-ran p room =
-      let aside = set (r .aside) (r .calls) (r .principal) in
-      let same : putAside aside (r .calls + 1) ≡ runsAs r =
-      ap (putAside aside) (add-one (r .calls))
-      ∙ ap₂ (λ (a : Principal) (l : List ℕ). a .0 ∷ l) (getD-set-same (r .aside) (r .calls) (r .principal) nobody (omega (arith, ran .places))) (aside-other (r .aside) (r .calls) (r .calls) (r .principal) (omega arith)) in
-      record { list = ap (λ (m : List ℕ). p .0 ∷ m) (ran .list ∙ sym same); places = length-set (r .aside) (r .calls) (r .principal) ∙ ran .places }
+      let c = r .calls in
+      let aside = set (r .aside) c (r .principal) in
+      let same : putAside aside (c + 1) ≡ runsAs r =
+      ap (putAside aside) (add-one c)
+      ∙ ap₂ (λ (a : Principal) (m : List ℕ). a .0 ∷ m) (getD-set-same (r .aside) c (r .principal) nobody (omega (arith, ran .places)))
+      (aside-other (r .aside) c c (r .principal) (omega arith)) in
+      record { list = ap (λ (m : List ℕ). p .0 ∷ m) (ran .list ∙ sym same); places = length-set (r .aside) c (r .principal) ∙ ran .places }
 
   -- 11: the last one put aside is back
   pub back-ran : 0 < r .calls → Ran (rest l) (backFrom r)
@@ -147,6 +163,8 @@ module _ {l : List ℕ} {r : ThreadRow} (ran : Ran l r) where
       let c = r .calls - 1 in
       let more : r .calls ≡ suc c = omega arith in
       record {
-        list = ap rest (ran .list) ∙ ap (putAside (r .aside)) more ∙ ap (λ (m : List ℕ). asideAt (r .aside) c ∷ m) (sym (aside-other (r .aside) c c nobody (omega arith)));
+        list =
+            ap rest (ran .list) ∙ ap (putAside (r .aside)) more
+            ∙ ap (λ (m : List ℕ). asideAt (r .aside) c ∷ m) (sym (aside-other (r .aside) c c nobody (omega arith)));
         places = length-set (r .aside) c nobody ∙ ran .places;
       }

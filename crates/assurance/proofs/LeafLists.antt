@@ -14,6 +14,9 @@ use Rattle.assurance.specs.Leaves.{link, withdrawn}
 pub record Same (ls ms : List Link) : Type 0 where
   pub joined : (a b : ℕ) → joins ls a b ≡ joins ms a b
 
+pub same-back : {ls ms : List Link} → Same ls ms → Same ms ls
+same-back f = record { joined = λ a b. sym (f .joined a b) }
+
 pub same-then : {ks ls ms : List Link} → Same ks ls → Same ls ms → Same ks ms
 same-then f g = record { joined = λ a b. f .joined a b ∙ g .joined a b }
 
@@ -23,10 +26,11 @@ same-then f g = record { joined = λ a b. f .joined a b ∙ g .joined a b }
 abbrev one : ℕ → ℕ → ℕ → ℕ → Bool
 one p q a b = eqb p a && eqb q b
 
+-- so their ends are the same
 one-is : (p q a b : ℕ) → one p q a b ≡ true → (p ≡ a) × (q ≡ b)
 one-is p q a b e = (eqb-true p a (and-left (eqb p a) (eqb q b) e), eqb-true q b (and-right (eqb p a) (eqb q b) e))
 
--- two links that are one with a third are one
+-- a third link is not both of two that differ
 one-apart : (p q c d a b : ℕ) → one c d p q ≡ false → one c d a b ≡ true → one p q a b ≡ false
 one-apart p q c d a b e f =
     ⊎-elim
@@ -37,20 +41,22 @@ one-apart p q c d a b e f =
     (λ h. h)
     (either (one p q a b))
 
--- x kept out, where y is let in beside j; where x is let in; where it is not there
+-- x is kept out where another, y, is let in
 out-beside : (x y j : Bool) → (y ≡ true → x ≡ false) → (y || (not x && j)) ≡ (not x && (y || j))
 out-beside x true j f = rw (f refl)
 out-beside x false j f = refl
 
+-- where x was let in
 out-again : (x j : Bool) → (not x && j) ≡ (not x && (x || j))
 out-again true j = refl
 out-again false j = refl
 
+-- where it was not there
 out-none : (x j : Bool) → (x ≡ true → j ≡ false) → (not x && j) ≡ j
 out-none true j f = sym (f refl)
 out-none false j f = refl
 
--- x let in that is there
+-- x is let in where it was there
 in-again : (x j : Bool) → (x ≡ true → j ≡ true) → (x || j) ≡ j
 in-again true j f = sym (f refl)
 in-again false j f = refl
@@ -71,11 +77,12 @@ withdrawn-joins (l ∷ ls) p q a b =
     ap (λ (x : Bool). one c d a b || x) (withdrawn-joins ls p q a b)
     ∙ out-beside (one p q a b) (one c d a b) (joins ls a b) (one-apart p q c d a b e))
 
--- a leave more, or those from p to q withdrawn, on both sides
+-- a leave more on both sides
 pub given-both : {ks ls : List Link} (p q : ℕ) → Same ks ls → Same (link p q ∷ ks) (link p q ∷ ls)
 unfolding joins
 given-both p q same = record { joined = λ a b. ap (λ (x : Bool). one p q a b || x) (same .joined a b) }
 
+-- the leaves from p to q withdrawn on both sides
 pub withdrawn-both : {ks ls : List Link} (p q : ℕ) → Same ks ls → Same (withdrawn ks p q) (withdrawn ls p q)
 withdrawn-both {ks} {ls} p q same =
     record {
@@ -103,5 +110,6 @@ module _ (ls : List Link) (p q : ℕ) where
   withdrawn-one e =
       record {
         joined = λ a b.
-            withdrawn-joins (link p q ∷ ls) p q a b ∙ sym (out-again (one p q a b) (joins ls a b)) ∙ out-none (one p q a b) (joins ls a b) (joins-one false e a b);
+            withdrawn-joins (link p q ∷ ls) p q a b ∙ sym (out-again (one p q a b) (joins ls a b))
+            ∙ out-none (one p q a b) (joins ls a b) (joins-one false e a b);
       }

@@ -23,18 +23,20 @@ module _ {k : Known} {w : World} (knows : Knows k w) where
   abbrev t : Tables
   t = w .tables
 
-  -- of objects and messages nothing is known
   abbrev withObjects : List ObjectRow → Tables
   withObjects o = record { principals = t .principals; links = t .links; tags = t .tags; grants = t .grants; threads = t .threads; kinds = t .kinds; objects = o }
 
+  -- of objects and messages nothing is known
   pub elsewhere : (o : List ObjectRow) (s : List ℕ) → Knows k (worldOf (withObjects o) (w .links) (w .grants) s)
   elsewhere o s = record { links = knows .links; grants = knows .grants; tags = knows .tags; runs = knows .runs }
 
-  -- other principal links, and maybe a principal more
   abbrev withPrincipals : ℕ → ℕ → Tables
   withPrincipals p n = record { principals = p; links = n; tags = t .tags; grants = t .grants; threads = t .threads; kinds = t .kinds; objects = t .objects }
 
-  pub links-learnt : (p : ℕ) (ls : List Link) (l : List ℕ) (n : ℕ) → Same ls (ofTag l n 0) → Knows (withLinks k 0 0 ls) (worldOf (withPrincipals p n) l (w .grants) (w .store))
+  -- other principal links, and maybe a principal more
+  pub links-learnt :
+      (p : ℕ) (ls : List Link) (l : List ℕ) (n : ℕ) → Same ls (ofTag l n 0) →
+      Knows (withLinks k 0 0 ls) (worldOf (withPrincipals p n) l (w .grants) (w .store))
   links-learnt p ls l n same = record { links = same; grants = knows .grants; tags = knows .tags; runs = knows .runs }
 
   -- other links of one tag
@@ -64,8 +66,8 @@ module _ {k : Known} {w : World} (knows : Knows k w) where
         runs = knows .runs;
       }
 
-  -- another row of thread n, and what is known of it
   module _ (n : ℕ) (room : n < length (t .threads)) where
+    -- another row of thread n, and what is known of it
     pub row-learnt :
         (r : ThreadRow) (l : List ℕ) → (r .live ≡ true → Ran l r) →
         Knows (withRuns k 0 0 n l) (worldOf (withThread t n r) (w .links) (w .grants) (w .store))

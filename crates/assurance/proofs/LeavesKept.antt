@@ -95,6 +95,7 @@ module _ (k : Known) (w : World) (holds : WorldHolds w) (sized : SizedWorld w) (
   -- ---- the caller is live
 
   module _ (live : own .live ≡ true) where
+    -- its row is one of those there are
     low : n < length (t .threads)
     low = live-among (t .threads) n live
 
@@ -119,10 +120,10 @@ module _ (k : Known) (w : World) (holds : WorldHolds w) (sized : SizedWorld w) (
 
     -- ---- kinds 01 to 09
 
-    -- both ends of a link are made
     abbrev EndsMade : Principal → Principal → Bool
     EndsMade p q = ltb (p .0) (t .principals) && ltb (q .0) (t .principals)
 
+    -- both ends of a link are made
     ends-low : (p q : Principal) → EndsMade p q ≡ true → (p .0 < 64) × (q .0 < 64)
     ends-low p q e =
         let near = ltb-true (p .0) (t .principals) (and-left _ (ltb (q .0) (t .principals)) e) in
@@ -140,6 +141,7 @@ module _ (k : Known) (w : World) (holds : WorldHolds w) (sized : SizedWorld w) (
     grants-fit : t .grants ≤ length (w .grants)
     grants-fit = omega (arith, holds .grants .limits .whole, holds .grants .limits .few)
 
+    -- as each outcome's facts show
     authority-learns :
         {allowed : Bool} {r : AuthorityRequest} {o : Outcome} →
         authority.AuthorityComes (sees (OfAuthority r)) (w .links) (w .grants) allowed r o → authorityNamed (sees (OfAuthority r)) r ≡ true →
@@ -184,7 +186,7 @@ module _ (k : Known) (w : World) (holds : WorldHolds w) (sized : SizedWorld w) (
         (removed-apart (w .grants) (t .grants) (u .0) (p .0) (q .0) (h .0) (h .1) (holds .grants) i e)
     authority-learns {allowed} (authority.tells {t = u}) there = by-test (Learns (OfAuthority (Authoritative u))) allowed (λ e. knows) (λ e. knows)
 
-    -- ---- what is decided
+    -- ---- all kinds
 
     decided : (allowed : Bool) (r : Request) → named (sees r) r ≡ true → Learns r (decide (sees r) (w .links) (w .grants) r allowed)
     decided allowed (OfAuthority r) there = authority-learns (authority.authority-comes (sees (OfAuthority r)) (w .links) (w .grants) allowed r there) there

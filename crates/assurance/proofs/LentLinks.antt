@@ -37,6 +37,7 @@ found-at k (y ∷ ys) x i e =
     (λ t. let w = found-at (suc k) ys x i (rw t at e) in (suc (w .0), omega (arith, w .1), omega (arith, w .2), w .3))
     (either (eqb y x))
 
+-- what is found has a place
 found-some : (f : Found) → isFound f ≡ true → (i : ℕ) × (f ≡ At i)
 found-some (At i) e = (i, refl)
 found-some Nothing e = absurd (never e refl)
@@ -47,9 +48,11 @@ module _ (l : List ℕ) (n t p q : ℕ) (near : p < 64) (far : q < 64) where
   abbrev x : ℕ
   x = (t * 256 + p) * 256 + q
 
+  -- it names the link
   names : Names (t * 256) x p q
   names = record { near = omega arith; far = omega arith; from-low = near; to-low = far }
 
+  -- so it is one of tag t
   own-link : isLinkOf (t * 256) x ≡ true
   own-link =
       let w = names in
@@ -57,13 +60,14 @@ module _ (l : List ℕ) (n t p q : ℕ) (near : p < 64) (far : q < 64) where
       (and-both (ltb (x / 256) (t * 256 + 64)) (ltb (x % 256) 64) (lt-ltb (x / 256) (t * 256 + 64) (omega (arith, w .near)))
       (lt-ltb (x % 256) 64 (omega (arith, w .far))))
 
+  -- and says from where to where
   says : said (t * 256) x ≡ link p q
   says =
       let w = names in
       let from : x / 256 - t * 256 ≡ p = omega (arith, w .near) in
       ap₂ link from (w .far)
 
-  -- it is a link of no other tag
+  -- it is one of no other tag
   other-link : (u : ℕ) → (u ≡ t → ⊥) → isLinkOf (u * 256) x ≡ false
   other-link u apart =
       ⊎-elim
@@ -71,12 +75,13 @@ module _ (l : List ℕ) (n t p q : ℕ) (near : p < 64) (far : q < 64) where
       (λ e. e)
       (either (isLinkOf (u * 256) x))
 
-  -- a number with its parts is it
+  -- a number with these parts is it
   parts-number : (y : ℕ) → Parts y t p q → y ≡ x
   parts-number y w = omega (arith, tag-parts y, w .0, w .1 .0, w .1 .1)
 
   -- ---- it stands or it does not
 
+  -- at a place in use it is a link
   place-linked : (i : ℕ) → i < n → i < length l → at l i ≡ x → joins (ofTag l n t) p q ≡ true
   place-linked i low there e =
       number-joins (t * 256) (take n l) i p q (omega (arith, length-take n l))
@@ -90,12 +95,14 @@ module _ (l : List ℕ) (n t p q : ℕ) (near : p < 64) (far : q < 64) where
       let low : i < n = omega (arith, same, w .2, length-take n l) in
       (low, omega (arith, same, w .2, length-take n l), sym (getD-take n l i 0 low) ∙ ap (at (take n l)) same ∙ w .3)
 
+  -- it stands: it is a link
   standing : stands l n x ≡ true → joins (ofTag l n t) p q ≡ true
   standing e =
       let f = found-some (findIn (take n l) x) e in
       let w = found-place (f .0) (f .1) in
       place-linked (f .0) (w .0) (w .1) (w .2)
 
+  -- it does not: it is none
   not-standing : n ≤ length l → findIn (take n l) x ≡ Nothing → joins (ofTag l n t) p q ≡ false
   not-standing fits e =
       ⊎-elim
@@ -105,6 +112,7 @@ module _ (l : List ℕ) (n t p q : ℕ) (near : p < 64) (far : q < 64) where
 
   -- ---- it is appended
 
+  -- tag t has this link more
   appended-own : n < length l → Same (link p q ∷ ofTag l n t) (ofTag (appended l n x) (n + 1) t)
   appended-own room =
       record {
@@ -112,6 +120,7 @@ module _ (l : List ℕ) (n t p q : ℕ) (near : p < 64) (far : q < 64) where
             sym (appended-joins l n x (OfTag (record { 0 = t })) room own-link a b ∙ ap (λ (k : Link). joins (k ∷ ofTag l n t) a b) says);
       }
 
+  -- the other tags have what they had
   pub appended-apart : n < length l → (u : ℕ) → (u ≡ t → ⊥) → ofTag l n u ≡ ofTag (appended l n x) (n + 1) u
   appended-apart room u apart = sym (appended-other l n x (OfTag (record { 0 = u })) room (other-link u apart))
 
@@ -124,6 +133,7 @@ module _ (l : List ℕ) (n t p q : ℕ) (near : p < 64) (far : q < 64) where
     fits : n ≤ length l
     fits = omega (arith, holds .limits .whole, holds .limits .few)
 
+    -- the place where it stood
     low : i < n
     low = found-place i found .0
 
@@ -145,6 +155,7 @@ module _ (l : List ℕ) (n t p q : ℕ) (near : p < 64) (far : q < 64) where
         (λ h. h)
         (either (joins (ofTag less (n - 1) t) p q))
 
+    -- tag t has this link fewer
     removed-own : Same (ofTag l n t) (link p q ∷ ofTag less (n - 1) t)
     removed-own =
         let own : isLinkOf (t * 256) (at l i) ≡ true = ap (isLinkOf (t * 256)) there ∙ own-link in
@@ -154,6 +165,7 @@ module _ (l : List ℕ) (n t p q : ℕ) (near : p < 64) (far : q < 64) where
               ∙ ap (λ (k : Link). joins (k ∷ ofTag less (n - 1) t) a b) (ap (said (t * 256)) there ∙ says);
         }
 
+    -- the other tags have what they had
     pub removed-apart : (u : ℕ) → (u ≡ t → ⊥) → ofTag l n u ≡ ofTag less (n - 1) u
     removed-apart u apart = removed-other l n i (OfTag (record { 0 = u })) low fits (ap (isLinkOf (u * 256)) there ∙ other-link u apart)
 
