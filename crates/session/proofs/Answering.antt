@@ -30,16 +30,20 @@ module _ (z l r : List ℕ) (e : isFrame z ≡ true) (q : r ≡ cond (rightLengt
       ap (take (length z / 2)) (q ∙ sym (hit l (and-left (rightLength z) (allDigits z) e) refl))
       ∙ take-at (frameOf z) (drop (0 + length (frameOf z)) l) (length z / 2) (frame-length z)
 
+  -- it has half as many bytes as the line
   pub frame-count : length z / 2 ≡ length (take (length z / 2) r)
   frame-count = sym (ap length frame-read ∙ frame-length z)
 
+  -- and they lie within the buffer
   pub frame-fits : length z / 2 ≤ length r
   frame-fits = omega (arith, frame-count, length-take (length z / 2) r)
 
 module _ (s : State) (l g b z a : List ℕ) where
+  -- a frame is a request
   pub when-frame : isFrame z ≡ true → requested s l g b (frameOf z) a ≡ lineAnswered s l g b z a
   when-frame e = hit _ e refl
 
+  -- any other line is refused 1
   pub when-none :
       isFrame z ≡ false → 0 < length a
       → record { replied = record { status = 1; written = 1; state = s }; links = l; grants = g; store = b; answer = set a 0 1 } ≡ lineAnswered s l g b z a
@@ -55,6 +59,7 @@ Within n x = length (x .answer) ≡ n → x .replied .written ≤ n
 front-within : (bs a : List ℕ) → length (front bs a) ≡ length a → length bs ≤ length a
 front-within bs a e = omega (arith, length-append bs (drop (length bs) a))
 
+-- a request's answer
 requested-within : (s : State) (l g b f a : List ℕ) → Within (length a) (requested s l g b f a)
 unfolding requested
 requested-within s l g b f a =
@@ -64,6 +69,7 @@ requested-within s l g b f a =
     (λ _. front-within (refusalNumber BrokenRule ∷ []) a)
     (λ _. front-within (stepAnswer (before s l g b f a) (s .memory) f) a))
 
+-- a line's answer
 pub answered-within :
     (s : State) (l g b z a : List ℕ) → length (lineAnswered s l g b z a .answer) ≡ length a → lineAnswered s l g b z a .replied .written ≤ length a
 answered-within s l g b z a =
@@ -77,6 +83,7 @@ pub record Answered (z : Session) (r : Replied) (m : List ℕ) : Type 0 where
   pub kept : length m ≡ shortestBuffer
 
 module _ {z : Session} {r : Replied} {m : List ℕ} (a : Answered z r m) where
+  -- what was written lies within the buffer
   pub written-fits : r .written ≤ length m
   written-fits =
       omega (
@@ -86,9 +93,11 @@ module _ {z : Session} {r : Replied} {m : List ℕ} (a : Answered z r m) where
         answered-within (z .state) (z .links) (z .grants) (z .store) (lineBytes (z .line)) (replicate shortestBuffer 0) (sym (ap length (a .buffer)) ∙ a .kept),
       )
 
+  -- it is no longer than the longest answer
   pub written-short : r .written ≤ shortestBuffer
   written-short = omega (arith, written-fits, a .kept)
 
+  -- as many bytes are taken of the buffer
   pub written-count : r .written ≡ length (take (r .written) m)
   written-count = sym (length-take-le (r .written) m written-fits)
 
@@ -103,5 +112,6 @@ module _ {z : Session} {r : Replied} {m : List ℕ} (a : Answered z r m) where
       let d : r .written + r .written + 1 ≡ length (lineOf bs) = omega (arith, written-count, length-append (digitsIn bs) (lineFeed ∷ []), digits-length bs) in
       d ∙ ap length printed-is
 
+  -- what the line's end leaves beside the lent buffers
   pub end-is : record { state = r .state; written = r .written + r .written + 1 } ≡ endOf z
   end-is = ap₂ (λ (x : State) (n : ℕ). record { state = x; written = n }) (ap (λ (x : Replied). x .state) (a .reply)) printed-length

@@ -15,6 +15,7 @@ use Rattle.store.proofs.Over.{over-none, over-over}
 use Rattle.session.specs.Session.{Session, hasLast, turned, printed, lastLine, ending, ended}
 use Rattle.session.specs.Run.{canEnd, endSession, endBytes, finished}
 
+-- the last line's 9 bytes and its LF
 pub last-length : (m : Memory) → length (lastLine m) ≡ 19
 unfolding digitsIn
 last-length m = refl
@@ -42,6 +43,7 @@ module _ (z : Session) (o : List ℕ) (at : ℕ) where
     ),
   )
 
+  -- no room
   pub without-room : canEnd z o at ≡ false → Finishes z o 0 false
   without-room c = finishes (skip (ended z) c refl) (skip (ending z) c refl) (sym c) (sym (over-none o at)) refl
 

@@ -94,18 +94,22 @@ module _ (z : Session) (input o : List ℕ) where
 
     -- no more is taken
     module _ (done : readable y (drop i input) (length o - at) ≡ 0) where
+      -- as many as there is room for
       all : i ≡ readable z input (length o)
       all = omega (arith, f .rest)
 
+      -- the session is what the block leaves
       whole : y ≡ fedSession z input o
       whole = f .session ∙ ap (λ (n : ℕ). after z (take n input)) all
 
+      -- and what is said of it is right
       result : record { state = y .state; line = y .line; read = i; written = at } ≡ fed z input o
       result =
           ap₂ (λ (v : Session) (n : ℕ). record { state = v .state; line = v .line; read = i; written = n }) (f .session) (f .wrote)
           ∙ ap (λ (n : ℕ). record { state = after z (take n input) .state; line = after z (take n input) .line; read = n; written = length (output z (take n input)) })
           all
 
+      -- all that the block leaves
       pub fed-all :
           (record { state = y .state; line = y .line; read = i; written = at } ≡ fed z input o)
           × ((y .links ≡ fedSession z input o .links)

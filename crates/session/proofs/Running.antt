@@ -60,6 +60,7 @@ module _ (size : ℕ) (l₀ g₀ b₀ input o : List ℕ) where
     abbrev x : Session
     x = sessionOf (f .state) l g b (f .line)
 
+    -- the session, the bytes read and the bytes written are what feeding leaves
     same : x ≡ y
     same =
         ap (λ (v : Fed). sessionOf (v .state) l g b (v .line)) (h .result) ∙ ap₂ (λ (u v : List ℕ). sessionOf (y .state) u v b (y .line)) (h .links) (h .grants)

@@ -37,6 +37,7 @@ output-append z (b ∷ x) y =
 
 -- ---- one byte
 
+-- what it leaves, and what is printed for it
 after-one : (z : Session) (b : ℕ) → after z (b ∷ []) ≡ takes z b
 unfolding after
 after-one z b = refl
@@ -49,35 +50,42 @@ output-one z b = append-nil (says z b)
 next : (l : List ℕ) (i : ℕ) → i < length l → take (i + 1) l ≡ take i l ++ (getD l i 0 ∷ [])
 next l i h = ap (λ (k : ℕ). take k l) (add-one i) ∙ take-suc l i 0 h
 
+-- what one byte more of a list leaves
 pub after-next : (z : Session) (l : List ℕ) (i : ℕ) → i < length l → after z (take (i + 1) l) ≡ takes (after z (take i l)) (getD l i 0)
 after-next z l i h = ap (after z) (next l i h) ∙ after-append z (take i l) (getD l i 0 ∷ []) ∙ after-one (after z (take i l)) (getD l i 0)
 
+-- and what is printed for it
 pub output-next :
     (z : Session) (l : List ℕ) (i : ℕ) → i < length l → output z (take (i + 1) l) ≡ output z (take i l) ++ says (after z (take i l)) (getD l i 0)
 output-next z l i h =
     ap (output z) (next l i h) ∙ output-append z (take i l) (getD l i 0 ∷ [])
     ∙ ap (λ (x : List ℕ). output z (take i l) ++ x) (output-one (after z (take i l)) (getD l i 0))
 
--- ---- how many bytes are taken: none of no bytes, none without room, and else one and those after it
+-- ---- how many bytes are taken
 
+-- none of no bytes
 readable-none : (z : Session) (room : ℕ) → readable z [] room ≡ 0
 unfolding readable
 readable-none z room = refl
 
+-- one, where there is room, and those after it
 readable-first :
     (z : Session) (b : ℕ) (bs : List ℕ) (room : ℕ) → answerRoom ≤ room
     → readable z (b ∷ bs) room ≡ suc (readable (takes z b) bs (room - length (says z b)))
 unfolding readable
 readable-first z b bs room h = sym (skip 0 (le-ltb room answerRoom h) refl)
 
+-- none where there is no room
 pub readable-full : (z : Session) (l : List ℕ) (room : ℕ) → room < answerRoom → readable z l room ≡ 0
 unfolding readable
 readable-full z [] room h = refl
 readable-full z (b ∷ bs) room h = sym (hit _ (lt-ltb room answerRoom h) refl)
 
+-- none where the list has ended
 pub readable-end : (z : Session) (l : List ℕ) (i room : ℕ) → length l ≤ i → readable z (drop i l) room ≡ 0
 readable-end z l i room h = ap (λ (x : List ℕ). readable z x room) (drop-of-length-le l h) ∙ readable-none z room
 
+-- the byte at i, and those after it
 pub readable-next :
     (z : Session) (l : List ℕ) (i room : ℕ) → i < length l → answerRoom ≤ room
     → readable z (drop i l) room ≡ suc (readable (takes z (getD l i 0)) (drop (i + 1) l) (room - length (says z (getD l i 0))))
