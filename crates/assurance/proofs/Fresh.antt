@@ -12,7 +12,6 @@ use Rattle.links.specs.Links.{linksFrom, findFrom}
 use Rattle.store.specs.Store.{storeSize, byteAt}
 use Rattle.store_rules.specs.StoreRules.{placesUsed}
 use Rattle.tables.specs.Things.{noTag, noObject, objectAt, freshTables}
-use Rattle.tables.specs.declared.rows.ObjectRow.{ObjectRow}
 use Rattle.state.specs.Start.{emptyMemory}
 use Rattle.link_rules.proofs.RuleLaws.{LinksHold}
 use Rattle.row_rules.specs.RowRules.{threadsHold, threadHolds, asideMade, asideUnused, objectsHold, objectHolds}

@@ -1,6 +1,6 @@
 -- What a request adds takes no authority away: what the walk said of a made pair it says afterwards too, unless a link was removed.
 -- Assumes nothing.
-use mathlib.Core.Path.{_≡_, refl, sym, ap, ap₂, subst, _∙_}
+use mathlib.Core.Path.{_≡_, refl, ap, ap₂, _∙_}
 use mathlib.Core.Bool.{Bool, true, _||_}
 use mathlib.Core.List.{List}
 use mathlib.Core.Logic.{_⊎_, inl, inr}
@@ -12,11 +12,9 @@ use lib.ListN.{length, set}
 use lib.Seq.{getD-set-other}
 use Rattle.numbers.specs.declared.Tag.{Tag}
 use Rattle.numbers.proofs.Bools.{and-left, and-right, by-test}
-use Rattle.links.specs.declared.authority.Lineage.{Lineage}
-use Rattle.links.specs.declared.authority.Rooted.{Rooted}
 use Rattle.links.specs.declared.authority.Lineage.the-variants as lineage
 use Rattle.links.specs.declared.lists.Graph.the-variants.{Principals}
-use Rattle.links.specs.Links.{linksIn, appended}
+use Rattle.links.specs.Links.{appended}
 use Rattle.links.proofs.ListLaws.{appended-among}
 use Rattle.links.proofs.AuthorityLaws.{authoritative-grows}
 use Rattle.memory_rules.specs.MemoryRules.{pairMade}
@@ -35,7 +33,7 @@ use Rattle.decide.proofs.AuthorityComes as comes
 use Rattle.step.specs.World.{World, applied}
 use Rattle.step.specs.Step.{removes}
 use Rattle.assurance.proofs.Sound.{walkIn}
-use Rattle.assurance.proofs.Worlds.{WorldHolds, SizedWorld}
+use Rattle.assurance.proofs.Worlds.{WorldHolds}
 
 -- ---- a tag more leaves the lineage of the others as it was
 

@@ -1,9 +1,9 @@
 -- Every request, and every clearing of the memory, leaves a sound machine sound; and the fresh one is. Assumes nothing.
-use mathlib.Core.Path.{_≡_, refl, sym, ap, subst, _∙_}
+use mathlib.Core.Path.{_≡_, refl, sym, subst, _∙_}
 use mathlib.Core.Bool.{Bool, true, false, cond, _||_}
 use mathlib.Core.List.{List}
 use mathlib.Core.Logic.{⊎-elim}
-use Prim.Native.Nat.{ℕ, _*_, _+_, _/_, _%_, _≤_, _<_}
+use Prim.Native.Nat.{ℕ, _*_, _+_, _/_, _%_, _≤_}
 use native.Mathlib.Omega.{arith}
 use borrow.Author.Tests.{lt-ltb}
 use lib.Dec.{ltb}
@@ -26,10 +26,10 @@ use Rattle.step.specs.Step.{After, asksOne, pairAsked, walked, seen, asked, out
 use Rattle.monitor.specs.Monitor.{shortestBuffer}
 use Rattle.monitor.proofs.Entering.{when-short}
 use Rattle.kept.proofs.MemoryKept.{memory-more, memory-emptied, memory-answered, pairs-answered, pairs-emptied, hits-answered, truthful-is}
-use Rattle.assurance.specs.Runs.{Call, Machine, worldAfter, entered, next, clearedIf}
+use Rattle.assurance.specs.Runs.{Call, Machine, worldAfter, next, clearedIf}
 use Rattle.assurance.proofs.Sound.{Sound, walkIn}
 use Rattle.assurance.proofs.Questions.{asker-made, tag-made, walked-is}
-use Rattle.assurance.proofs.Reference.{walkedIf, answers-as-walk, enters-step}
+use Rattle.assurance.proofs.Reference.{answers-as-walk, enters-step}
 use Rattle.assurance.proofs.Worlds.{WorldHolds, SizedWorld, world-rules, memory-rules, all-rules}
 use Rattle.assurance.proofs.NotPublic.{allowed-not-public}
 use Rattle.assurance.proofs.WorldKept.{sized-applied, more-made, world-kept, walk-grows}

@@ -3,7 +3,7 @@ use mathlib.Core.Path.{_≡_, sym, ap, ap₂, _∙_}
 use mathlib.Core.Bool.{true, false, _||_}
 use mathlib.Core.List.{List}
 use mathlib.Core.Logic.{⊎-elim}
-use Prim.Native.Nat.{ℕ, _+_, _*_, _%_, _≤_, _<_}
+use Prim.Native.Nat.{ℕ, _<_}
 use native.Mathlib.Omega.{arith}
 use borrow.Author.Tests.{ltb-true}
 use lib.Dec.{ltb}
@@ -12,7 +12,7 @@ use lib.Seq.{getD-take}
 use Rattle.numbers.specs.Numbers.{public}
 use Rattle.numbers.specs.declared.Principal.{Principal}
 use Rattle.numbers.specs.declared.Tag.{Tag}
-use Rattle.numbers.proofs.Bools.{and-left, never, either, or-either}
+use Rattle.numbers.proofs.Bools.{and-left, never, either}
 use Rattle.links.specs.declared.lists.Graph.{Graph}
 use Rattle.links.specs.declared.lists.Graph.the-variants.{Principals, OfTag}
 use Rattle.links.specs.Paths.{joins}

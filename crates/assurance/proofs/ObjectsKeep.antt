@@ -1,6 +1,6 @@
 -- Kinds 12 to 19 keep the rules of the world. Assumes nothing.
 use mathlib.Core.Path.{_≡_, refl}
-use mathlib.Core.Bool.{Bool, true, false, not, _||_}
+use mathlib.Core.Bool.{true, false}
 use mathlib.Core.List.{List}
 use Prim.Native.Nat.{ℕ, _+_, _-_, _≤_, _<_}
 use native.Mathlib.Omega.{arith}
@@ -9,7 +9,7 @@ use lib.ListN.{length, set}
 use Rattle.numbers.specs.Numbers.{mostObjects, mostQueued, longestMessage}
 use Rattle.numbers.specs.declared.Object.{Object}
 use Rattle.numbers.specs.declared.flow.LabelPair.{LabelPair}
-use Rattle.store.specs.Store.{storeSize, objectSize, placeAt, put, tookFirst, cleared}
+use Rattle.store.specs.Store.{storeSize}
 use Rattle.store.proofs.Over.{part-length}
 use Rattle.tables.specs.declared.rows.ObjectRow.{ObjectRow}
 use Rattle.tables.specs.declared.rows.What.{What}
@@ -28,7 +28,7 @@ use Rattle.frames.proofs.Spans.{SpanFits, ObjectSpans}
 use Rattle.answers.specs.Answers.{givenBy}
 use Rattle.sight.specs.Sight.{sightOf}
 use Rattle.outcomes.specs.declared.Outcome.{Outcome}
-use Rattle.row_rules.specs.RowRules.{labelsMade, whatInLimits, objectMade, objectUnused}
+use Rattle.row_rules.specs.RowRules.{labelsMade, whatInLimits}
 use Rattle.row_rules.proofs.RuleLaws.{ObjectsHold}
 use Rattle.store_rules.proofs.RuleLaws.{StoreHolds}
 use Rattle.decide_objects.specs.Objects.{emptyOf}
@@ -37,7 +37,7 @@ use Rattle.apply.specs.Apply.{withObject}
 use Rattle.step.specs.World.{World, worldOf, applied}
 use Rattle.kept.proofs.ObjectsKept.{object-set, object-changed}
 use Rattle.kept.proofs.StoreKept.{store-new, store-freed, store-written, store-put, store-taken, store-locked, store-whole-put, store-whole-taken, store-whole-freed}
-use Rattle.kept.proofs.ThreadsKept.{labels-are}
+use Rattle.kept.proofs.LabelsKept.{labels-are}
 use Rattle.assurance.proofs.Worlds.{WorldHolds, SizedWorld}
 
 -- a new object is within its limits, and is in use

@@ -10,6 +10,7 @@ use Rattle.numbers.specs.Numbers.{mostThreads}
 use Rattle.numbers.specs.declared.labels.Label.{Label}
 use Rattle.numbers.specs.Labels.{namesOnlyMade}
 use Rattle.numbers.proofs.Bools.{and-left, and-right, implies}
+use Rattle.numbers.proofs.LabelLaws.{made-with}
 use Rattle.tables.specs.declared.rows.ThreadRow.{ThreadRow}
 use Rattle.tables.specs.Things.{threadAt}
 use Rattle.tables.proofs.Among.{live-among}
@@ -22,7 +23,8 @@ use Rattle.row_rules.specs.RowRules.{labelsMade, asideMade}
 use Rattle.apply.specs.Apply.{withThread, labelled}
 use Rattle.decide.proofs.ThreadComes as comes
 use Rattle.step.specs.World.{World, worldOf, applied}
-use Rattle.kept.proofs.ThreadsKept.{RowHolds, row-holds, thread-set, ended-holds, labelled-holds, forked-holds, called-holds, back-holds, with-made, without-made, labels-are}
+use Rattle.kept.proofs.ThreadsKept.{RowHolds, row-holds, thread-set, ended-holds, labelled-holds, forked-holds, called-holds, back-holds}
+use Rattle.kept.proofs.LabelsKept.{without-made, labels-are}
 use Rattle.assurance.proofs.Worlds.{WorldHolds, SizedWorld}
 
 module _ (w : World) (holds : WorldHolds w) (sized : SizedWorld w) (f : List ℕ) (live : threadAt (w .tables .threads) (threadOf f .0) .live ≡ true) where
@@ -75,11 +77,11 @@ module _ (w : World) (holds : WorldHolds w) (sized : SizedWorld w) (f : List ℕ
 
   pub thread-keeps : {allowed : Bool} {r : ThreadRequest} {o : Outcome} → comes.ThreadComes (sightOf (w .tables) (threadOf f) (OfThread r)) (w .links) allowed r o → WorldHolds (applied w f o)
   thread-keeps (comes.stops x) = holds
-  thread-keeps (comes.into-secrecy {t} made) = labels-changed _ _ (with-made (own .labels .secrecy) t (both .0) (ltb-true (t .0) (w .tables .tags) made)) (both .1)
+  thread-keeps (comes.into-secrecy {t} made) = labels-changed _ _ (made-with (own .labels .secrecy) t (w .tables .tags) (ltb-true (t .0) (w .tables .tags) made) (both .0)) (both .1)
   thread-keeps (comes.is-out a) = holds
   thread-keeps (comes.out-of-secrecy {t} a b) = labels-changed _ _ (without-made (w .tables .tags) (own .labels .secrecy) t (both .0)) (both .1)
   thread-keeps (comes.is-in a) = holds
-  thread-keeps (comes.into-integrity {t} made a b) = labels-changed _ _ (both .0) (with-made (own .labels .integrity) t (both .1) (ltb-true (t .0) (w .tables .tags) made))
+  thread-keeps (comes.into-integrity {t} made a b) = labels-changed _ _ (both .0) (made-with (own .labels .integrity) t (w .tables .tags) (ltb-true (t .0) (w .tables .tags) made) (both .1))
   thread-keeps (comes.out-of-integrity {t}) = labels-changed _ _ (both .0) (without-made (w .tables .tags) (own .labels .integrity) t (both .1))
   thread-keeps (comes.forks {p} made a b) = row-changed _ _ (forked-holds own-holds live (ltb-true (p .0) (w .tables .principals) made))
   thread-keeps comes.ends = row-changed _ _ ended-holds

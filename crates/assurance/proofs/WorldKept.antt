@@ -1,6 +1,6 @@
 -- Every request keeps the rules of the world; and what the walk said of a made pair it says afterwards too, unless a link was removed.
 -- Assumes nothing.
-use mathlib.Core.Path.{_≡_, refl}
+use mathlib.Core.Path.{_≡_}
 use mathlib.Core.Bool.{Bool, true, _||_}
 use mathlib.Core.List.{List}
 use mathlib.Core.Logic.{_⊎_, inr}
@@ -11,7 +11,7 @@ use Rattle.numbers.specs.Numbers.{public}
 use Rattle.numbers.specs.declared.Principal.{Principal}
 use Rattle.memory_rules.specs.MemoryRules.{pairMade}
 use Rattle.tables.specs.Things.{threadAt}
-use Rattle.frames.specs.Requests.{threadOf, requestOf, wellFormed}
+use Rattle.frames.specs.Requests.{threadOf, requestOf}
 use Rattle.frames.specs.declared.requests.Request.{Request}
 use Rattle.frames.specs.declared.requests.Request.the-variants.{OfAuthority, OfThread, OfObject, OfOutside}
 use Rattle.frames.specs.declared.requests.ThreadRequest.{ThreadRequest}

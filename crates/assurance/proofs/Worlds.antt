@@ -1,6 +1,5 @@
 -- The rules of 9 that speak of the world, table by table, apart from those of the memory. Assumes nothing.
 use mathlib.Core.Path.{_≡_}
-use mathlib.Core.List.{List}
 use Prim.Native.Nat.{ℕ, _≤_, _<_}
 use lib.ListN.{length, getD}
 use Rattle.numbers.specs.Numbers.{linkPlaces, mostThreads, mostTags, mostObjects}

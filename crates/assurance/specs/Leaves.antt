@@ -1,7 +1,7 @@
 -- "A leave is a link that an accepted 01, 02 or 07 names; an accepted 03 or 08 withdraws it" (01). The leaves are folded from the
 -- requests and their answers alone; with them who made each tag, and who each thread runs as, since 01 links to the caller.
 -- Assumes nothing.
-use mathlib.Core.Bool.{Bool, true, false, not, cond, _&&_}
+use mathlib.Core.Bool.{Bool, true, false, cond, _&&_}
 use mathlib.Core.List.{List, [], _∷_}
 use Prim.Native.Nat.{ℕ}
 use lib.Dec.{eqb}

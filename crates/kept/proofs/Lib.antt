@@ -1,3 +1,4 @@
+pub mod LabelsKept
 pub mod LinksKept
 pub mod TagsKept
 pub mod ThreadsKept

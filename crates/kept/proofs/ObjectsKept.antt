@@ -4,26 +4,15 @@ use mathlib.Core.Bool.{true, false, not, _||_}
 use mathlib.Core.List.{List, [], _∷_}
 use Prim.Native.Nat.{ℕ, zero, suc, _≤_, _<_}
 use lib.ListN.{set}
-use Rattle.numbers.specs.declared.flow.LabelPair.{LabelPair}
-use Rattle.numbers.specs.Labels.{namesOnlyMade}
 use Rattle.numbers.specs.Numbers.{mostObjects}
-use Rattle.numbers.proofs.Bools.{and-left, and-right, and-both, or-left, or-right, or-elim, never}
-use Rattle.numbers.proofs.LabelLaws.{made-more}
+use Rattle.numbers.proofs.Bools.{or-left, or-right, or-elim, never}
 use Rattle.tables.specs.Things.{objectAt}
 use Rattle.tables.specs.Free.{isFree}
 use Rattle.tables.specs.declared.rows.ObjectRow.{ObjectRow}
 use Rattle.tables.specs.declared.rows.What.{What}
 use Rattle.row_rules.specs.RowRules.{labelsMade, labelsEmpty, whatInLimits, objectMade, objectUnused}
 use Rattle.row_rules.proofs.RuleLaws.{ObjectsHold}
-
--- labels of made tags stay so when tags are made
-labels-more : {tags tags2 : ℕ} (l : LabelPair) → tags ≤ tags2 → labelsMade tags l ≡ true → labelsMade tags2 l ≡ true
-labels-more {tags} {tags2} l h e =
-    let a = namesOnlyMade (l .secrecy) in
-    let b = namesOnlyMade (l .integrity) in
-    and-both (a tags2) (b tags2)
-    (made-more (l .secrecy) tags tags2 h (and-left (a tags) (b tags) e))
-    (made-more (l .integrity) tags tags2 h (and-right (a tags) (b tags) e))
+use Rattle.kept.proofs.LabelsKept.{labels-more}
 
 -- what holds of every row and of the row that is put holds of every row after
 set-keeps : (P : ObjectRow → Type 0) (rows : List ObjectRow) (o n : ℕ) (r : ObjectRow) → P r → P (objectAt rows n) → P (objectAt (set rows o r) n)
@@ -43,7 +32,7 @@ module _ {tags : ℕ} {rows : List ObjectRow} (holds : ObjectsHold tags rows) wh
             let r = objectAt rows o in
             let now = labelsMade tags2 (r .labels) in
             or-elim (isFree (r .what)) (labelsMade tags (r .labels)) (isFree (r .what) || now) (holds .made o low)
-            (or-left (isFree (r .what)) now) (λ e. or-right (isFree (r .what)) now (labels-more (r .labels) h e));
+            (or-left (isFree (r .what)) now) (λ e. or-right (isFree (r .what)) now (labels-more (r .labels) e h));
         unused = holds .unused;
       }
 

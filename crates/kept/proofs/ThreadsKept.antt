@@ -10,43 +10,16 @@ use lib.ListN.{getD, set, getD-replicate}
 use lib.Seq.{getD-set-other}
 use Rattle.numbers.specs.Below.{allBelow}
 use Rattle.numbers.specs.Numbers.{public, mostThreads, mostPutAside}
-use Rattle.numbers.specs.Labels.{withTag, withoutTag, namesOnlyMade}
 use Rattle.numbers.specs.declared.Principal.{Principal}
-use Rattle.numbers.specs.declared.Tag.{Tag}
-use Rattle.numbers.specs.declared.labels.Label.{Label}
 use Rattle.numbers.specs.declared.flow.LabelPair.{LabelPair}
 use Rattle.numbers.proofs.Bools.{implies, implied}
 use Rattle.numbers.proofs.Says.{eqb-is, leb-is, ltb-is, itself, and-is, from-is, all-is}
-use Rattle.numbers.proofs.LabelLaws.{without-within, made-more, made-within, made-with}
 use Rattle.tables.specs.declared.rows.ThreadRow.{ThreadRow}
 use Rattle.tables.specs.Things.{nobody, noThread, pastThread, threadAt}
 use Rattle.row_rules.specs.RowRules.{labelsMade, asideAt, asideMade, asideUnused, threadInLimits, threadMade, threadUnused}
 use Rattle.row_rules.proofs.RuleLaws.{ThreadsHold}
 use Rattle.apply.specs.Apply.{labelled, forked, called, backFrom}
-
--- ---- labels
-
--- a label of made tags, and a made tag more
-pub with-made : {tags : ℕ} (l : Label) (t : Tag) → namesOnlyMade l tags ≡ true → t .0 < tags → namesOnlyMade (withTag l t) tags ≡ true
-with-made {tags} l t e h = made-with l t tags h e
-
--- a tag fewer
-pub without-made : (tags : ℕ) (l : Label) (t : Tag) → namesOnlyMade l tags ≡ true → namesOnlyMade (withoutTag l t) tags ≡ true
-without-made tags l t e = made-within (withoutTag l t) l tags (without-within l t) e
-
--- more tags are made
-pub names-more : {tags tags2 : ℕ} (l : Label) → namesOnlyMade l tags ≡ true → tags ≤ tags2 → namesOnlyMade l tags2 ≡ true
-names-more {tags} {tags2} l e h = made-more l tags tags2 h e
-
--- both labels of a pair name made tags
-pub labels-are :
-    (tags : ℕ) (l : LabelPair) → (labelsMade tags l ≡ true) ↔ ((namesOnlyMade (l .secrecy) tags ≡ true) × (namesOnlyMade (l .integrity) tags ≡ true))
-labels-are tags l = and-is (itself (namesOnlyMade (l .secrecy) tags)) (itself (namesOnlyMade (l .integrity) tags))
-
--- names-more, of a pair
-pub labels-more : {tags tags2 : ℕ} (l : LabelPair) → labelsMade tags l ≡ true → tags ≤ tags2 → labelsMade tags2 l ≡ true
-labels-more {tags} {tags2} l e h =
-    let w = labels-are tags l .0 e in labels-are tags2 l .1 (names-more (l .secrecy) (w .0) h, names-more (l .integrity) (w .1) h)
+use Rattle.kept.proofs.LabelsKept.{labels-more}
 
 -- ---- a list and one of its elements put in anew
 
