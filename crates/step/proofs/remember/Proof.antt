@@ -1,5 +1,8 @@
 -- `step::remember` meets its contract: a removal empties the memory. Assumes nothing.
+use mathlib.Core.Path.{refl, sym, ap₂, _∙_}
+use mathlib.Core.Bool.{_||_}
 use borrow.Author.Needs.{needs}
+use Rattle.numbers.proofs.Chain.{skip, hit}
 use Rattle.step.proofs.remember.Statement.{statement}
 use Rattle.step.proofs.remember.Tie as tie
 
@@ -10,5 +13,5 @@ remember-spec =
     (λ c κs. search needs)
     (λ c κs. search needs)
     (λ c κs. search needs)
-    (λ c. rw (← c .before .before .removes2 .ensures) (rw (← c .before .before .before .removes .ensures) (rw (c .before .if1 .taken) (c .clear .ensures))))
-    (λ c. rw (← c .before .removes2 .ensures) (rw (← c .before .before .removes .ensures) (rw (c .if1 .left) cc))))
+    (λ c. hit _ (sym (ap₂ _||_ (c .before .before .before .removes .ensures) (c .before .before .removes2 .ensures)) ∙ c .before .if1 .taken) (c .clear .ensures))
+    (λ c. skip _ (sym (ap₂ _||_ (c .before .before .removes .ensures) (c .before .removes2 .ensures)) ∙ c .if1 .left) refl))
