@@ -9,7 +9,7 @@ use Rattle.answers.specs.declared.Refusal.the-variants.{BrokenRule}
 use Rattle.answers.specs.Answers.{answerBytes}
 use Rattle.rules.specs.Tested.{breakNoRule}
 use Rattle.state.specs.declared.State.{State}
-use Rattle.step.specs.Step.{After, leaves, before, stepped}
+use Rattle.step.specs.Step.{After, answeredWith, before, stepped}
 
 -- the room that every answer has
 abbrev pub shortestBuffer : ℕ
@@ -23,7 +23,7 @@ module _ (s : State) (l g b f a : List ℕ) where
 
   -- 9: "the tables break a rule"; "A refusal writes its one byte .. Tables stay"
   abbrev pub broken : After
-  broken = leaves (before s l g b f a) (s .memory) (Refused BrokenRule) (answerBytes f b (Refused BrokenRule)) a
+  broken = answeredWith (before s l g b f a) (s .memory) (Refused BrokenRule) (answerBytes f b (Refused BrokenRule)) a
 
   unfoldable pub requested : After
   requested =

@@ -12,7 +12,7 @@ use Rattle.memory.specs.declared.Memory.{Memory}
 use Rattle.lines.specs.Lines.{lineFeed, frameOf, isFrame, lineOf}
 use Rattle.state.specs.declared.State.{State}
 use Rattle.step.specs.World.{worldOf}
-use Rattle.step.specs.Step.{After, leaves}
+use Rattle.step.specs.Step.{After, answeredWith}
 use Rattle.monitor.specs.Monitor.{shortestBuffer, requested}
 use Rattle.session.specs.declared.Line.{Line}
 use Rattle.session.specs.declared.Turned.{Turned}
@@ -37,7 +37,7 @@ noLine = record { held = 0; bytes = replicate 73 0 }
 abbrev pub lineAnswered : State → List ℕ → List ℕ → List ℕ → List ℕ → List ℕ → After
 lineAnswered s l g b z a =
     cond (isFrame z) (requested s l g b (frameOf z) a)
-    (leaves (worldOf (s .tables) l g b) (s .memory) (Refused Malformed) (refusalNumber Malformed ∷ []) a)
+    (answeredWith (worldOf (s .tables) l g b) (s .memory) (Refused Malformed) (refusalNumber Malformed ∷ []) a)
 
 -- ---- what is carried from byte to byte
 

@@ -120,8 +120,8 @@ pub record After : Type 0 where
   pub answer : List ℕ
 
 -- the world w and the memory m after the answer x, of these bytes; a is the answer buffer before it
-abbrev pub leaves : World → Memory → Answer → List ℕ → List ℕ → After
-leaves w m x bytes a =
+abbrev pub answeredWith : World → Memory → Answer → List ℕ → List ℕ → After
+answeredWith w m x bytes a =
     record {
       replied = record { status = statusOf x; written = length bytes; state = record { tables = w .tables; memory = m } };
       links = w .links;
@@ -137,4 +137,4 @@ module _ (s : State) (l g b f a : List ℕ) where
 
   abbrev pub stepped : After
   stepped =
-      leaves (stepWorld before (s .memory) f) (stepMemory before (s .memory) f) (comesTo before (s .memory) f .outcome .answer) (stepAnswer before (s .memory) f) a
+      answeredWith (stepWorld before (s .memory) f) (stepMemory before (s .memory) f) (comesTo before (s .memory) f .outcome .answer) (stepAnswer before (s .memory) f) a

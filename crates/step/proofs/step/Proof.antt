@@ -14,7 +14,7 @@ use Rattle.rules.proofs.Gives.{memory-fits}
 use Rattle.step.specs.declared.Considered.{Considered}
 use Rattle.step.specs.declared.Replied.{Replied}
 use Rattle.step.specs.World.{World, worldOf, applied, HasRoom}
-use Rattle.step.specs.Step.{asked, remembers, After, leaves}
+use Rattle.step.specs.Step.{asked, remembers, After, answeredWith}
 use Rattle.step.proofs.Room.{has-room}
 use Rattle.step.proofs.step.Statement.{statement}
 use Rattle.step.proofs.step.Tie as tie
@@ -56,7 +56,7 @@ module _ (c : tie.After-consider) where
 
 -- what a request leaves that came to k
 abbrev left : World → List ℕ → List ℕ → Considered → After
-left w f a k = leaves (applied w f (k .outcome)) (remembers (k .outcome) (k .memory)) (k .outcome .answer) (answerBytes f (w .store) (k .outcome .answer)) a
+left w f a k = answeredWith (applied w f (k .outcome)) (remembers (k .outcome) (k .memory)) (k .outcome .answer) (answerBytes f (w .store) (k .outcome .answer)) a
 
 -- equal parts are an equal reply
 abbrev reply : ℕ → ℕ → Tables → Memory → Replied
