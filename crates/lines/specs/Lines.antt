@@ -4,7 +4,8 @@ use mathlib.Core.Bool.{Bool, true, _&&_}
 use mathlib.Core.List.{List, [], _∷_, _++_}
 use Prim.Native.Nat.{ℕ, _+_, _*_, _%_}
 use lib.Dec.{eqb, ltb, leb}
-use lib.ListN.{length}
+use lib.ListN.{length, getD}
+use Rattle.lines.specs.declared.line.ReadByte.{ReadByte}
 use Rattle.lines.specs.Digits.{digitOf, digitsOf}
 
 abbrev pub lineFeed : ℕ
@@ -17,6 +18,14 @@ longestLine = 72
 -- "two a byte, high first"; what is no digit makes a byte here too, and the line is refused
 abbrev pub byteOf : ℕ → ℕ → ℕ
 byteOf high low = (digitOf high * 16 + digitOf low) % 256
+
+-- the byte whose two digits stand at a place of the line, and whether they are digits
+abbrev pub readByte : List ℕ → ℕ → ReadByte
+readByte z at =
+    record {
+      value = byteOf (getD z at 0) (getD z (at + 1) 0);
+      digits = ltb (digitOf (getD z at 0)) 16 && ltb (digitOf (getD z (at + 1) 0)) 16;
+    }
 
 unfoldable pub frameOf : List ℕ → List ℕ
 frameOf [] = []

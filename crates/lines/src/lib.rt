@@ -7,5 +7,7 @@ pub use digits::NO_DIGIT;
 pub use digits::digit_of;
 pub use digits::digits_of;
 pub use line::LINE_FEED;
+pub use line::ReadByte;
 pub use line::frame_of;
 pub use line::put_line;
+pub use line::read_byte;

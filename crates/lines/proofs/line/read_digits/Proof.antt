@@ -1,14 +1,15 @@
 -- `lines::line::read_digits` meets its contract: the loop has read the pairs of digits passed. Assumes nothing.
 use mathlib.Core.Path.{_≡_, refl, sym, ap, ap₂, _∙_}
+use mathlib.Core.Bool.{_&&_}
 use mathlib.Core.List.{List}
-use Prim.Native.Nat.{ℕ, _+_, _*_, _-_, _/_, _%_, _≤_, _<_}
+use Prim.Native.Nat.{ℕ, _+_, _-_, _/_, _%_, _≤_, _<_}
 use native.Mathlib.Nat.{zero-add}
 use native.Mathlib.Omega.{arith}
-use borrow.Author.Needs.{needs}
 use lib.ListN.{length, getD, set, take, length-set}
 use lib.Seq.{length-take-le, take-all}
 use Rattle.store.specs.Store.{over}
 use Rattle.store.proofs.Over.{over-next}
+use Rattle.lines.specs.declared.line.ReadByte.{ReadByte}
 use Rattle.lines.specs.Lines.{byteOf, frameOf, allDigits}
 use Rattle.lines.proofs.LineLaws.{frame-length, frame-next, digits-next}
 use Rattle.lines.proofs.line.read_digits.Statement.{statement}
@@ -38,34 +39,23 @@ read-digits-spec =
     Inv-loop
     μ-loop
     (λ c. (omega arith, omega arith, refl, refl, refl))
-    (λ c. omega arith)
-    (λ c κs. search needs)
-    (λ c. omega arith)
-    (λ c. omega arith)
-    (λ c κs. search needs)
-    (λ c. omega arith)
-    (λ c. omega arith)
-    (λ c. omega arith)
-    (λ c. omega arith)
-    (λ c. omega arith)
+    (λ c κs. omega arith)
     (λ c. omega arith)
     (λ c. omega arith)
     (λ c. omega arith)
     (λ c.
-    let at = c .before .before .before .before .before in
+    let at = c .before .before .before in
     let a = at .before .before .before .args in
     let z = a .line .now in
     let i = at .loop .i in
     let inv = at .loop .inv in
-    let high = c .before .before .digit-of .ensures in
-    let low = c .digit-of2 .ensures in
+    let b = c .before .read-byte .ensures in
     let more : i + 1 < length z = omega arith in (
       omega arith,
       omega arith,
       simp length-set (inv .2),
-      rw (high, low, inv .3) (sym (digits-next z i more)),
-      ap₂ (λ (s : List ℕ) (b : ℕ). set s (i / 2) b) (inv .4) (ap₂ (λ (x y : ℕ). (x * 16 + y) % 256) high low)
-          ∙ turn (a .frame .now) z i more (inv .0) (omega arith),
+      ap₂ _&&_ (inv .3) (ap (λ (r : ReadByte). r .digits) b) ∙ sym (digits-next z i more),
+      ap₂ (λ (s : List ℕ) (v : ℕ). set s (i / 2) v) (inv .4) (ap (λ (r : ReadByte). r .value) b) ∙ turn (a .frame .now) z i more (inv .0) (omega arith),
     ))
     (λ c. c .before .loop .inv .2)
     (λ c.
