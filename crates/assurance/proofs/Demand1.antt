@@ -170,6 +170,7 @@ module _ (s : State) (l g b f a : List ℕ) where
       record {
         world = sym (ap worldAfter q);
         answer = sym (ap (λ (x : After). x .answer) q) ∙ hit _ (ap (λ (n : ℕ). eqb n 10) (number-of q)) refl;
+        written = sym (ap (λ (x : After). x .replied .written) q) ∙ hit _ (ap (λ (n : ℕ). eqb n 10) (number-of q)) refl;
         memory = sym (ap (λ (x : After). x .replied .state .memory) q) ∙ hit _ e refl;
       }
 
@@ -180,6 +181,7 @@ module _ (s : State) (l g b f a : List ℕ) where
       record {
         world = sym (ap worldAfter q);
         answer = sym (ap (λ (x : After). x .answer) q) ∙ skip _ (ap (λ (k : ℕ). eqb k 10) n) (ap (λ (k : ℕ). front (k ∷ []) a) (sym n));
+        written = sym (ap (λ (x : After). x .replied .written) q) ∙ skip _ (ap (λ (k : ℕ). eqb k 10) n) refl;
         memory = sym (ap (λ (x : After). x .replied .state .memory) q) ∙ skip _ e (hit _ h refl);
       }
 
@@ -194,6 +196,9 @@ module _ (s : State) (l g b f a : List ℕ) where
         answer =
             sym (ap (λ (y : After). y .answer) q) ∙ ap (λ (o : Outcome). front (answerBytes f b (o .answer)) a) came
             ∙ skip _ (ap (λ (k : ℕ). eqb k 10) n ∙ not-ten x) (ap (λ (k : ℕ). front (k ∷ []) a) (sym n));
+        written =
+            sym (ap (λ (y : After). y .replied .written) q) ∙ ap (λ (o : Outcome). length (answerBytes f b (o .answer))) came
+            ∙ skip _ (ap (λ (k : ℕ). eqb k 10) n ∙ not-ten x) refl;
         memory = sym (ap (λ (y : After). y .replied .state .memory) q) ∙ ap (λ (o : Outcome). remembers o m) came ∙ skip _ e (skip _ h refl);
       }
 

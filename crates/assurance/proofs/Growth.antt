@@ -11,7 +11,7 @@ use lib.Dec.{ltb}
 use lib.ListN.{length, set}
 use lib.Seq.{getD-set-other}
 use Rattle.numbers.specs.declared.Tag.{Tag}
-use Rattle.numbers.proofs.Bools.{and-left, and-right, by-test}
+use Rattle.numbers.proofs.Bools.{and-right, by-test}
 use Rattle.links.specs.declared.authority.Lineage.the-variants as lineage
 use Rattle.links.specs.declared.lists.Graph.the-variants.{Principals}
 use Rattle.links.specs.Links.{appended}
@@ -22,7 +22,7 @@ use Rattle.tables.specs.declared.rows.TagRow.{TagRow}
 use Rattle.tables.specs.declared.rows.Rank.{Rank}
 use Rattle.tables.specs.declared.rows.Rank.the-variants.{Supertag, SubtagOf}
 use Rattle.tables.specs.Things.{noTag, tagAt, rootedAt, lineageBy, lineageOf}
-use Rattle.row_rules.specs.RowRules.{isSupertag, rankHolds}
+use Rattle.row_rules.specs.RowRules.{rankHolds}
 use Rattle.frames.specs.Requests.{threadOf}
 use Rattle.frames.specs.declared.requests.AuthorityRequest.{AuthorityRequest}
 use Rattle.frames.specs.declared.requests.Request.the-variants.{OfAuthority}
@@ -30,6 +30,7 @@ use Rattle.sight.specs.Sight.{sightOf}
 use Rattle.outcomes.specs.declared.Outcome.{Outcome}
 use Rattle.rules.specs.Tested.{pairTrue}
 use Rattle.decide.proofs.AuthorityComes as comes
+use Rattle.kept.proofs.TagsKept.{supertag-earlier}
 use Rattle.step.specs.World.{World, applied}
 use Rattle.step.specs.Step.{removes}
 use Rattle.assurance.proofs.Sound.{walkIn}
@@ -44,7 +45,7 @@ module _ (kinds : List TagRow) (n : ℕ) (row : TagRow) where
   by-rank : (t : Tag) (r : Rank) → t .0 < n → rankHolds kinds (t .0) r ≡ true → lineageBy (set kinds n row) t r ≡ lineageBy kinds t r
   by-rank t Supertag low ranked = ap lineage.Supertag (root-same t low)
   by-rank t (SubtagOf u) low ranked =
-      let below = ltb-true (u .0) (t .0) (and-left (ltb (u .0) (t .0)) (isSupertag (tagAt kinds (u .0) .rank)) ranked) in
+      let below = supertag-earlier kinds (t .0) u ranked in
       ap₂ lineage.Subtag (root-same t low) (root-same u (omega (arith, below, low)))
 
   lineage-same : (t : Tag) → t .0 < n → rankHolds kinds (t .0) (tagAt kinds (t .0) .rank) ≡ true → lineageOf (set kinds n row) t ≡ lineageOf kinds t

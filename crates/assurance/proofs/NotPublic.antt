@@ -5,14 +5,12 @@ use mathlib.Core.List.{List}
 use mathlib.Core.Logic.{⊎-elim}
 use Prim.Native.Nat.{ℕ, _<_}
 use native.Mathlib.Omega.{arith}
-use borrow.Author.Tests.{ltb-true}
-use lib.Dec.{ltb}
 use lib.ListN.{take, length-take}
 use lib.Seq.{getD-take}
 use Rattle.numbers.specs.Numbers.{public}
 use Rattle.numbers.specs.declared.Principal.{Principal}
 use Rattle.numbers.specs.declared.Tag.{Tag}
-use Rattle.numbers.proofs.Bools.{and-left, never, either}
+use Rattle.numbers.proofs.Bools.{never, either}
 use Rattle.links.specs.declared.lists.Graph.{Graph}
 use Rattle.links.specs.declared.lists.Graph.the-variants.{Principals, OfTag}
 use Rattle.links.specs.Paths.{joins}
@@ -24,7 +22,8 @@ use Rattle.link_rules.specs.LinkRules.{at, toIn}
 use Rattle.tables.specs.declared.rows.Rank.{Rank}
 use Rattle.tables.specs.declared.rows.Rank.the-variants.{Supertag, SubtagOf}
 use Rattle.tables.specs.Things.{tagAt, rootedAt, lineageBy, lineageOf}
-use Rattle.row_rules.specs.RowRules.{isSupertag, rankHolds}
+use Rattle.row_rules.specs.RowRules.{rankHolds}
+use Rattle.kept.proofs.TagsKept.{supertag-earlier}
 use Rattle.step.specs.World.{World}
 use Rattle.assurance.proofs.Worlds.{WorldHolds}
 
@@ -50,7 +49,7 @@ module _ (w : World) (holds : WorldHolds w) where
   by-rank : (t : Tag) (r : Rank) → t .0 < w .tables .tags → rankHolds (w .tables .kinds) (t .0) r ≡ true → (p : Principal) → p .0 ≡ public → authoritative (linksIn (w .links) (w .tables .links) Principals) (w .grants) (w .tables .grants) (lineageBy (w .tables .kinds) t r) p ≡ false
   by-rank t Supertag made ranked p e = node-not-public t made p e
   by-rank t (SubtagOf u) made ranked p e =
-      let low = ltb-true (u .0) (t .0) (and-left (ltb (u .0) (t .0)) (isSupertag (tagAt (w .tables .kinds) (u .0) .rank)) ranked) in
+      let low = supertag-earlier (w .tables .kinds) (t .0) u ranked in
       ap₂ _||_ (node-not-public t made p e) (node-not-public u (omega (arith, made, low)) p e)
 
   pub allowed-not-public : (t : Tag) → t .0 < w .tables .tags → (p : Principal) → authoritative (linksIn (w .links) (w .tables .links) Principals) (w .grants) (w .tables .grants) (lineageOf (w .tables .kinds) t) p ≡ true → p .0 ≡ public → ⊥

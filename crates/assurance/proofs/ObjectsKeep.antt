@@ -11,6 +11,7 @@ use Rattle.numbers.specs.declared.Object.{Object}
 use Rattle.numbers.specs.declared.flow.LabelPair.{LabelPair}
 use Rattle.store.specs.Store.{storeSize}
 use Rattle.store.proofs.Over.{part-length}
+use Rattle.tables.specs.declared.Tables.{Tables}
 use Rattle.tables.specs.declared.rows.ObjectRow.{ObjectRow}
 use Rattle.tables.specs.declared.rows.What.{What}
 use Rattle.tables.specs.declared.rows.What.the-variants as what
@@ -51,6 +52,11 @@ new-used kind.Cell = refl
 new-used kind.Queue = refl
 new-used kind.Lock = refl
 
+-- the tables with these rows of objects
+abbrev withObjects : Tables → List ObjectRow → Tables
+withObjects t now =
+    record { principals = t .principals; links = t .links; tags = t .tags; grants = t .grants; threads = t .threads; kinds = t .kinds; objects = now }
+
 -- the message of a frame is no longer than a message may be
 message-short : (f : List ℕ) (m : Span) → SpanFits f m → length (givenBy f m) ≤ longestMessage
 message-short f m fits = omega (arith, part-length f (m .at) (m .len) (fits .there), fits .short)
@@ -68,9 +74,9 @@ module _ (w : World) (holds : WorldHolds w) (sized : SizedWorld w) (f : List ℕ
 
   -- the rows of objects and the store change; the rest stays
   objects-changed :
-      (o : ℕ) (r : ObjectRow) (b : List ℕ) → ObjectsHold (w .tables .tags) (set rows o r) → length b ≡ storeSize → StoreHolds b (set rows o r) →
-      WorldHolds (worldOf (withObject (w .tables) o r) (w .links) (w .grants) b)
-  objects-changed o r b objects whole store =
+      (now : List ObjectRow) (b : List ℕ) → ObjectsHold (w .tables .tags) now → length b ≡ storeSize → StoreHolds b now →
+      WorldHolds (worldOf (withObjects (w .tables) now) (w .links) (w .grants) b)
+  objects-changed now b objects whole store =
       record {
         links = holds .links;
         grants = holds .grants;
@@ -84,22 +90,6 @@ module _ (w : World) (holds : WorldHolds w) (sized : SizedWorld w) (f : List ℕ
         store = store;
       }
 
-  -- only the store changes
-  store-changed : (b : List ℕ) → length b ≡ storeSize → StoreHolds b rows → WorldHolds (worldOf (w .tables) (w .links) (w .grants) b)
-  store-changed b whole store =
-      record {
-        links = holds .links;
-        grants = holds .grants;
-        two = holds .two;
-        links-unused = holds .links-unused;
-        grants-unused = holds .grants-unused;
-        tags = holds .tags;
-        threads = holds .threads;
-        objects = holds .objects;
-        whole = whole;
-        store = store;
-      }
-
   -- 12
   object-made :
       (k : ObjectKind) (l : LabelPair) → labelsMade (w .tables .tags) l ≡ true → freeObject rows < mostObjects →
@@ -107,7 +97,7 @@ module _ (w : World) (holds : WorldHolds w) (sized : SizedWorld w) (f : List ℕ
   object-made k l made room =
       let r : ObjectRow = record { what = emptyOf k; labels = l } in
       let free = first-is ObjectRow (λ (x : ObjectRow). isFree (x .what)) noObject rows (omega (arith, room, sized .objects)) in
-      objects-changed (freeObject rows) r s
+      objects-changed (set rows (freeObject rows) r) s
       (object-set (holds .objects) (freeObject rows) r (new-fits k) (rw (new-used k) made) (rw (new-used k) refl))
       (holds .whole)
       (store-new (sized .objects) (holds .whole) (holds .store) room (emptyOf k) l free)
@@ -117,30 +107,30 @@ module _ (w : World) (holds : WorldHolds w) (sized : SizedWorld w) (f : List ℕ
   object-keeps spans (comes.makes {k} {l} a b free) = object-made k l (labels-are (w .tables .tags) l .1 (a, b)) free
   object-keeps spans (comes.deletes {o} used) =
       let low = in-use o _ refl used in
-      objects-changed (o .0) noObject _ (object-set (holds .objects) (o .0) noObject refl refl refl) (store-whole-freed s (holds .whole) low) (store-freed (sized .objects) (holds .whole) (holds .store) low)
+      objects-changed _ _ (object-set (holds .objects) (o .0) noObject refl refl refl) (store-whole-freed s (holds .whole) low) (store-freed (sized .objects) (holds .whole) (holds .store) low)
   object-keeps spans (comes.reads e) = holds
   object-keeps spans (comes.writes {o} {m} e) =
       let low = in-use o what.Cell e refl in
       let short = message-short f m spans in
       let first : 0 < mostQueued = omega arith in
-      store-changed _ (store-whole-put s (holds .whole) low (givenBy f m) first short) (store-written (sized .objects) (holds .whole) (holds .store) low (givenBy f m) e short)
+      objects-changed rows _ (holds .objects) (store-whole-put s (holds .whole) low (givenBy f m) first short) (store-written (sized .objects) (holds .whole) (holds .store) low (givenBy f m) e short)
   object-keeps spans (comes.puts {o} {m} held e room) =
       let low = in-use o (what.Queue held) e refl in
       let short = message-short f m spans in
-      objects-changed (o .0) _ _
+      objects-changed _ _
       (object-changed (holds .objects) (what.Queue (held + 1)) low (rw e refl) refl (le-leb (held + 1) mostQueued (omega (arith, room))))
       (store-whole-put s (holds .whole) low (givenBy f m) room short)
       (store-put (sized .objects) (holds .whole) (holds .store) low (givenBy f m) (objectAt rows (o .0) .labels) e room short)
   object-keeps spans (comes.gets {o} held e some) =
       let low = in-use o (what.Queue held) e refl in
       let fits = leb-true held mostQueued (rw e at (holds .objects .limits (o .0) low)) in
-      objects-changed (o .0) _ _
+      objects-changed _ _
       (object-changed (holds .objects) (what.Queue (held - 1)) low (rw e refl) refl (le-leb (held - 1) mostQueued (omega (arith, fits))))
       (store-whole-taken s (holds .whole) low)
       (store-taken (sized .objects) (holds .whole) (holds .store) low (objectAt rows (o .0) .labels) e fits)
   object-keeps spans (comes.locks {o} e) =
       let low = in-use o (what.Lock false) e refl in
-      objects-changed (o .0) _ s (object-changed (holds .objects) (what.Lock true) low (rw e refl) refl refl) (holds .whole) (store-locked (sized .objects) (holds .whole) (holds .store) low true (objectAt rows (o .0) .labels) e)
+      objects-changed _ s (object-changed (holds .objects) (what.Lock true) low (rw e refl) refl refl) (holds .whole) (store-locked (sized .objects) (holds .whole) (holds .store) low true (objectAt rows (o .0) .labels) e)
   object-keeps spans (comes.unlocks {o} locked e) =
       let low = in-use o (what.Lock locked) e refl in
-      objects-changed (o .0) _ s (object-changed (holds .objects) (what.Lock false) low (rw e refl) refl refl) (holds .whole) (store-locked (sized .objects) (holds .whole) (holds .store) low false (objectAt rows (o .0) .labels) e)
+      objects-changed _ s (object-changed (holds .objects) (what.Lock false) low (rw e refl) refl refl) (holds .whole) (store-locked (sized .objects) (holds .whole) (holds .store) low false (objectAt rows (o .0) .labels) e)

@@ -50,6 +50,7 @@ module _ (s : State) (l g b f a : List ℕ) where
     pub world : worldAfter (requested s l g b f a) ≡ worldOf tables l g b
     -- "A refusal writes its one byte (10 writes none)"
     pub answer : requested s l g b f a .answer ≡ cond (eqb numberOf 10) a (front (numberOf ∷ []) a)
+    pub written : requested s l g b f a .replied .written ≡ cond (eqb numberOf 10) 0 1
     -- "A question counts even where the request is then refused 5 or 7"; where none was asked, nothing changes
     pub memory :
         requested s l g b f a .replied .state .memory

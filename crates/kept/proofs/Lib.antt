@@ -1,3 +1,4 @@
+pub mod Setting
 pub mod LabelsKept
 pub mod LinksKept
 pub mod TagsKept

@@ -1,26 +1,19 @@
 -- The rows of objects obey their rules of 9 after each change that a request makes. Assumes nothing.
-use mathlib.Core.Path.{_≡_, ap}
+use mathlib.Core.Path.{_≡_, refl, ap}
 use mathlib.Core.Bool.{true, false, not, _||_}
-use mathlib.Core.List.{List, [], _∷_}
-use Prim.Native.Nat.{ℕ, zero, suc, _≤_, _<_}
+use mathlib.Core.List.{List}
+use Prim.Native.Nat.{ℕ, _≤_, _<_}
 use lib.ListN.{set}
 use Rattle.numbers.specs.Numbers.{mostObjects}
 use Rattle.numbers.proofs.Bools.{or-left, or-right, or-elim, never}
-use Rattle.tables.specs.Things.{objectAt}
+use Rattle.tables.specs.Things.{noObject, objectAt}
 use Rattle.tables.specs.Free.{isFree}
 use Rattle.tables.specs.declared.rows.ObjectRow.{ObjectRow}
 use Rattle.tables.specs.declared.rows.What.{What}
 use Rattle.row_rules.specs.RowRules.{labelsMade, labelsEmpty, whatInLimits, objectMade, objectUnused}
 use Rattle.row_rules.proofs.RuleLaws.{ObjectsHold}
 use Rattle.kept.proofs.LabelsKept.{labels-more}
-
--- what holds of every row and of the row that is put holds of every row after
-set-keeps : (P : ObjectRow → Type 0) (rows : List ObjectRow) (o n : ℕ) (r : ObjectRow) → P r → P (objectAt rows n) → P (objectAt (set rows o r) n)
-set-keeps P [] o n r new old = old
-set-keeps P (x ∷ rows) zero zero r new old = new
-set-keeps P (x ∷ rows) zero (suc n) r new old = old
-set-keeps P (x ∷ rows) (suc o) zero r new old = old
-set-keeps P (x ∷ rows) (suc o) (suc n) r new old = set-keeps P rows o n r new old
+use Rattle.kept.proofs.Setting.{set-holds}
 
 module _ {tags : ℕ} {rows : List ObjectRow} (holds : ObjectsHold tags rows) where
   -- tags are made
@@ -41,9 +34,9 @@ module _ {tags : ℕ} {rows : List ObjectRow} (holds : ObjectsHold tags rows) wh
       (o : ℕ) (r : ObjectRow) → whatInLimits (r .what) ≡ true → objectMade tags r ≡ true → objectUnused r ≡ true → ObjectsHold tags (set rows o r)
   object-set o r limit made unused =
       record {
-        limits = λ n low. set-keeps (λ x. whatInLimits (x .what) ≡ true) rows o n r limit (holds .limits n low);
-        made = λ n low. set-keeps (λ x. objectMade tags x ≡ true) rows o n r made (holds .made n low);
-        unused = λ n low. set-keeps (λ x. objectUnused x ≡ true) rows o n r unused (holds .unused n low);
+        limits = λ n low. set-holds (λ (x : ObjectRow). whatInLimits (x .what) ≡ true) rows o r noObject n limit refl (λ h. holds .limits n low);
+        made = λ n low. set-holds (λ (x : ObjectRow). objectMade tags x ≡ true) rows o r noObject n made refl (λ h. holds .made n low);
+        unused = λ n low. set-holds (λ (x : ObjectRow). objectUnused x ≡ true) rows o r noObject n unused refl (λ h. holds .unused n low);
       }
 
   -- an object in use becomes another thing in use, and keeps its labels

@@ -7,15 +7,17 @@ use Prim.Native.Nat.{ℕ, _+_, _≤_, _<_}
 use native.Mathlib.Nat.{eq-or-lt-of-le}
 use native.Mathlib.Omega.{arith}
 use borrow.Author.Tests.{ltb-true, lt-ltb}
+use lib.Dec.{ltb}
 use lib.ListN.{length, set}
 use lib.Seq.{getD-set-same, getD-set-other}
 use Rattle.numbers.specs.Numbers.{public, mostTags}
+use Rattle.numbers.specs.declared.Tag.{Tag}
 use Rattle.numbers.proofs.Bools.{and-left}
 use Rattle.tables.specs.declared.rows.TagRow.{TagRow}
 use Rattle.tables.specs.declared.rows.Rank.{Rank}
 use Rattle.tables.specs.declared.rows.Rank.the-variants.{Supertag, SubtagOf}
 use Rattle.tables.specs.Things.{noTag, tagAt}
-use Rattle.row_rules.specs.RowRules.{supertagMade, rankHolds}
+use Rattle.row_rules.specs.RowRules.{isSupertag, supertagMade, rankHolds}
 use Rattle.row_rules.proofs.RuleLaws.{TagsHold}
 
 -- more principals are made
@@ -31,17 +33,21 @@ tags-more w h =
       unused = w .unused;
     }
 
+-- a supertag is an earlier tag
+pub supertag-earlier : (rows : List TagRow) (i : ℕ) (u : Tag) → rankHolds rows i (SubtagOf u) ≡ true → u .0 < i
+supertag-earlier rows i u e = ltb-true (u .0) i (and-left (ltb (u .0) i) (isSupertag (tagAt rows (u .0) .rank)) e)
+
 -- the supertag of tag i is an earlier tag, and so made where i is at most the count
 rank-made : (rows : List TagRow) (i n : ℕ) (k : Rank) → i ≤ n → rankHolds rows i k ≡ true → supertagMade n k ≡ true
 rank-made rows i n Supertag h e = refl
-rank-made rows i n (SubtagOf t) h e = let low : t .0 < i = ltb-true _ _ (and-left _ _ e) in lt-ltb (t .0) n (omega arith)
+rank-made rows i n (SubtagOf t) h e = lt-ltb (t .0) n (omega (arith, supertag-earlier rows i t e))
 
 module _ (tags : ℕ) (rows : List TagRow) (row : TagRow) where
   -- a new row at `tags` leaves the ranks of the tags up to it as they were
   rank-kept : (i : ℕ) (k : Rank) → i ≤ tags → rankHolds rows i k ≡ true → rankHolds (set rows tags row) i k ≡ true
   rank-kept i Supertag h e = refl
   rank-kept i (SubtagOf t) h e =
-      let low : t .0 < i = ltb-true _ _ (and-left _ _ e) in rw (getD-set-other rows tags (t .0) row noTag (λ q. omega arith)) e
+      let low = supertag-earlier rows i t e in rw (getD-set-other rows tags (t .0) row noTag (λ q. omega arith)) e
 
   -- what holds of the new row and of each before it holds of each row up to the new one
   tags-each :

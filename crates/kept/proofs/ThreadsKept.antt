@@ -2,11 +2,11 @@
 -- or tags are made. Assumes nothing.
 use mathlib.Core.Path.{_≡_, refl}
 use mathlib.Core.Bool.{Bool, true, not, _||_}
-use mathlib.Core.List.{List, [], _∷_}
+use mathlib.Core.List.{List}
 use mathlib.Core.Logic.{_↔_}
-use Prim.Native.Nat.{ℕ, zero, suc, _-_, _≤_, _<_}
+use Prim.Native.Nat.{ℕ, _-_, _≤_, _<_}
 use native.Mathlib.Omega.{arith}
-use lib.ListN.{getD, set, getD-replicate}
+use lib.ListN.{set, getD-replicate}
 use lib.Seq.{getD-set-other}
 use Rattle.numbers.specs.Below.{allBelow}
 use Rattle.numbers.specs.Numbers.{public, mostThreads, mostPutAside}
@@ -20,18 +20,7 @@ use Rattle.row_rules.specs.RowRules.{labelsMade, asideAt, asideMade, asideUnuse
 use Rattle.row_rules.proofs.RuleLaws.{ThreadsHold}
 use Rattle.apply.specs.Apply.{labelled, forked, called, backFrom}
 use Rattle.kept.proofs.LabelsKept.{labels-more}
-
--- ---- a list and one of its elements put in anew
-
--- what holds of the element put in at i, of what stands past the end, and of the element at j where that is another place, holds of
--- the element that is then at j
-set-holds :
-    {A : Type 0} (P : A → Type 0) (l : List A) (i : ℕ) (a d : A) (j : ℕ) → P a → P d → ((j ≡ i → ⊥) → P (getD l j d)) → P (getD (set l i a) j d)
-set-holds P [] i a d j new past old = past
-set-holds P (x ∷ xs) zero a d zero new past old = new
-set-holds P (x ∷ xs) zero a d (suc j) new past old = old (λ e. omega arith)
-set-holds P (x ∷ xs) (suc i) a d zero new past old = old (λ e. omega arith)
-set-holds P (x ∷ xs) (suc i) a d (suc j) new past old = set-holds P xs i a d j new past (λ h. old (λ e. h (omega arith)))
+use Rattle.kept.proofs.Setting.{set-holds}
 
 -- ---- one thread's row, in the words of its rules
 

@@ -23,7 +23,7 @@ module _ (s : State) (l g b f a : List ℕ) where
 
   -- 9: "the tables break a rule"; "A refusal writes its one byte .. Tables stay"
   abbrev pub broken : After
-  broken = answeredWith (before s l g b f a) (s .memory) (Refused BrokenRule) (answerBytes f b (Refused BrokenRule)) a
+  broken = answeredWith (before s l g b) (s .memory) (Refused BrokenRule) (answerBytes f b (Refused BrokenRule)) a
 
   unfoldable pub requested : After
   requested =

@@ -67,7 +67,7 @@ requested-within s l g b f a =
     (λ _.
     by-test (Within (length a)) (not (breakNoRule (s .tables) (s .memory) l g b)) {x = broken s l g b f a} {y = stepped s l g b f a}
     (λ _. front-within (refusalNumber BrokenRule ∷ []) a)
-    (λ _. front-within (stepAnswer (before s l g b f a) (s .memory) f) a))
+    (λ _. front-within (stepAnswer (before s l g b) (s .memory) f) a))
 
 -- a line's answer
 pub answered-within :

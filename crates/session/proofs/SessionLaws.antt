@@ -1,6 +1,7 @@
 -- Feeding a list in pieces is feeding it whole, and one byte more of a list. Assumes nothing.
 use mathlib.Core.Path.{_≡_, refl, sym, ap, ap₂, _∙_}
 use mathlib.Core.List.{List, [], _∷_, _++_, append-assoc, append-nil}
+use mathlib.Core.Logic.{_⊎_, inl, inr}
 use Prim.Native.Nat.{ℕ, suc, _+_, _-_, _≤_, _<_}
 use native.Mathlib.Numerals.{add-one}
 use native.Mathlib.Omega.{arith}
@@ -101,3 +102,8 @@ readable-within z [] room = omega arith
 readable-within z (b ∷ bs) room =
     by-test (λ (n : ℕ). n ≤ suc (length bs)) (ltb room answerRoom) (λ e. omega arith)
     (λ e. omega (arith, readable-within (takes z b) bs (room - length (says z b))))
+
+-- and something, where there is room for an answer
+pub readable-some : (z : Session) (l : List ℕ) (room : ℕ) → answerRoom ≤ room → (length l ≡ 0) ⊎ (0 < readable z l room)
+readable-some z [] room h = inl refl
+readable-some z (b ∷ bs) room h = inr (omega (arith, readable-first z b bs room h))

@@ -130,11 +130,17 @@ answeredWith w m x bytes a =
       answer = front bytes a;
     }
 
+-- the world of the state s with the lists l and g and the store b
+abbrev pub before : State → List ℕ → List ℕ → List ℕ → World
+before s l g b = worldOf (s .tables) l g b
+
 -- the step, from the state s, the lists l and g, the store b, the frame f and the answer buffer a
 module _ (s : State) (l g b f a : List ℕ) where
-  abbrev pub before : World
-  before = worldOf (s .tables) l g b
+  abbrev w : World
+  w = before s l g b
+
+  abbrev m : Memory
+  m = s .memory
 
   abbrev pub stepped : After
-  stepped =
-      answeredWith (stepWorld before (s .memory) f) (stepMemory before (s .memory) f) (comesTo before (s .memory) f .outcome .answer) (stepAnswer before (s .memory) f) a
+  stepped = answeredWith (stepWorld w m f) (stepMemory w m f) (comesTo w m f .outcome .answer) (stepAnswer w m f) a

@@ -6,7 +6,7 @@ use native.Mathlib.Omega.{arith}
 use borrow.Author.Needs.{needs}
 use lib.ListN.{length}
 use Rattle.session.specs.declared.Fed.{Fed}
-use Rattle.suvdorkhun.proofs.Pieces.{readable-le, readable-some}
+use Rattle.session.proofs.SessionLaws.{readable-within, readable-some}
 use Rattle.suvdorkhun.proofs.serve_piece.Statement.{statement}
 use Rattle.suvdorkhun.proofs.serve_piece.Tie as tie
 
@@ -25,6 +25,6 @@ serve-piece-spec =
     (λ c.
     let l = c .before .before .before .before .before .before .before .before .before .before .before .before .before .before .before .before .before .before .before .before .before .args .piece .now in
     let e = ap (λ (x : Fed). x .read) (c .before .before .before .before .before .before .before .before .before .before .before .feed .ensures .0) in (
-      subst (λ (n : ℕ). n ≤ length l) (sym e) (readable-le _ l _),
+      subst (λ (n : ℕ). n ≤ length l) (sym e) (readable-within _ l _),
       ⊎-elim inl (λ h. inr (subst (λ (n : ℕ). 0 < n) (sym e) h)) (readable-some _ l _ (omega (arith, c .before .before .before .before .before .before .before .before .before .before .before .before .before .before .before .before .large-buffer .ensures))),
     )))
