@@ -5,7 +5,7 @@ use mathlib.Core.List.{List, [], _∷_, _++_}
 use Prim.Native.Nat.{ℕ, _+_, _*_, _%_}
 use lib.Dec.{eqb, ltb, leb}
 use lib.ListN.{length, getD}
-use Rattle.lines.specs.declared.line.ReadByte.{ReadByte}
+use Rattle.lines.specs.declared.reader.ReadByte.{ReadByte}
 use Rattle.lines.specs.Digits.{digitOf, digitsOf}
 
 abbrev pub lineFeed : ℕ
@@ -26,6 +26,10 @@ readByte z at =
       value = byteOf (getD z at 0) (getD z (at + 1) 0);
       digits = ltb (digitOf (getD z at 0)) 16 && ltb (digitOf (getD z (at + 1) 0)) 16;
     }
+
+-- fewer than two digits are left at a place of the line
+abbrev pub noByteAt : List ℕ → ℕ → Bool
+noByteAt z at = leb (length z) (at + 1)
 
 unfoldable pub frameOf : List ℕ → List ℕ
 frameOf [] = []

@@ -3,12 +3,13 @@
 // is not known here.
 ghost use mathlib.Core.Path.{_≡_};
 ghost use mathlib.Core.Bool.{cond};
-ghost use Prim.Native.Nat.{_+_, _%_, _≤_, _<_};
+ghost use Prim.Native.Nat.{_+_, _%_, _≤_};
 ghost use lib.ListN.{length};
 ghost use Rattle.store.specs.Store.{over};
-ghost use Rattle.lines.specs.Lines.{readByte, frameOf, allDigits, rightLength, isFrame, lineOf};
-use crate::digits::digit_of;
+ghost use Rattle.lines.specs.Lines.{frameOf, allDigits, rightLength, isFrame, lineOf};
 use crate::digits::digits_of;
+use crate::reader::is_read;
+use crate::reader::read_byte;
 
 // What ends a line.
 pub const LINE_FEED: u8 = 10;
@@ -30,25 +31,6 @@ pub fn frame_of(line: &[u8], frame: &mut [u8; 36]) -> bool
     }
 }
 
-// A byte of a line, and whether its two digits are digits.
-pub struct ReadByte {
-    pub value: u8,
-    pub digits: bool,
-}
-
-// The frame reader: of a line and a place in it, the byte whose two digits stand there, "high first".
-pub fn read_byte(line: &[u8], at: usize) -> ReadByte
-    requires { ⌜ at + 1 < length (now line) ⌝ }
-    ensures { λ r. ⌜ r ≡ readByte (now (line .entry)) at ⌝ }
-{
-    let high = digit_of(line[at]);
-    let low = digit_of(line[at + 1]);
-    ReadByte {
-        value: ((high as u32 * 16 + low as u32) % 256) as u8,
-        digits: (high < 16) & (low < 16),
-    }
-}
-
 // Reads the bytes of a line, each from its two digits, and answers whether all were digits.
 fn read_digits(line: &[u8], frame: &mut [u8]) -> bool
     requires { ⌜ (length (now line) % 2 ≡ 0) × (length (now line) ≤ length (now frame) + length (now frame)) ⌝ }
@@ -57,7 +39,7 @@ fn read_digits(line: &[u8], frame: &mut [u8]) -> bool
 {
     let mut ok = true;
     let mut i = 0;
-    while i < line.len() {
+    while !is_read(line, i) {
         let b = read_byte(line, i);
         frame[i / 2] = b.value;
         ok = ok & b.digits;

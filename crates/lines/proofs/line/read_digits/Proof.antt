@@ -1,16 +1,17 @@
 -- `lines::line::read_digits` meets its contract: the loop has read the pairs of digits passed. Assumes nothing.
 use mathlib.Core.Path.{_≡_, refl, sym, ap, ap₂, _∙_}
-use mathlib.Core.Bool.{_&&_}
+use mathlib.Core.Bool.{Bool, true, false, not, _&&_}
 use mathlib.Core.List.{List}
 use Prim.Native.Nat.{ℕ, _+_, _-_, _/_, _%_, _≤_, _<_}
 use native.Mathlib.Nat.{zero-add}
 use native.Mathlib.Omega.{arith}
+use borrow.Author.Tests.{leb-true, leb-false, not-true, not-false}
 use lib.ListN.{length, getD, set, take, length-set}
 use lib.Seq.{length-take-le, take-all}
 use Rattle.store.specs.Store.{over}
 use Rattle.store.proofs.Over.{over-next}
-use Rattle.lines.specs.declared.line.ReadByte.{ReadByte}
-use Rattle.lines.specs.Lines.{byteOf, frameOf, allDigits}
+use Rattle.lines.specs.declared.reader.ReadByte.{ReadByte}
+use Rattle.lines.specs.Lines.{byteOf, noByteAt, frameOf, allDigits}
 use Rattle.lines.proofs.LineLaws.{frame-length, frame-next, digits-next}
 use Rattle.lines.proofs.line.read_digits.Statement.{statement}
 use Rattle.lines.proofs.line.read_digits.Tie as tie
@@ -31,6 +32,13 @@ turn s z i h e r =
     rw (zero-add (i / 2)) at (over-next s 0 (frameOf (take i z)) (i / 2) (byteOf (getD z i 0) (getD z (i + 1) 0)) l (omega arith))
     ∙ ap (over s 0) (sym (frame-next z i h e))
 
+-- a byte is left where the reader is not done, and none where it is
+left : (z : List ℕ) (i : ℕ) {b : Bool} → b ≡ noByteAt z i → not b ≡ true → i + 1 < length z
+left z i {b} e t = leb-false (length z) (i + 1) (sym e ∙ not-true b t)
+
+none : (z : List ℕ) (i : ℕ) {b : Bool} → b ≡ noByteAt z i → not b ≡ false → length z ≤ i + 1
+none z i {b} e t = leb-true (length z) (i + 1) (sym e ∙ not-false b t)
+
 pub read-digits-spec : {M : Type 1} → statement M
 unfolding allDigits frameOf
 read-digits-spec =
@@ -39,27 +47,36 @@ read-digits-spec =
     Inv-loop
     μ-loop
     (λ c. (omega arith, omega arith, refl, refl, refl))
-    (λ c κs. omega arith)
-    (λ c. omega arith)
-    (λ c. omega arith)
-    (λ c. omega arith)
+    (λ c κs. tt)
+    (λ c κs. let at = c .before .before in left (at .before .before .before .args .line .now) (at .loop .i) (c .before .is-read .ensures) (c .if1 .taken))
     (λ c.
     let at = c .before .before .before in
+    omega (arith, left (at .before .before .before .args .line .now) (at .loop .i) (c .before .before .is-read .ensures) (c .before .if1 .taken)))
+    (λ c.
+    let at = c .before .before .before .before in
+    omega (arith, left (at .before .before .before .args .line .now) (at .loop .i) (c .before .before .before .is-read .ensures) (c .before .before .if1 .taken)))
+    (λ c.
+    let at = c .before .before .before .before in
+    omega (arith, left (at .before .before .before .args .line .now) (at .loop .i) (c .before .before .before .is-read .ensures) (c .before .before .if1 .taken)))
+    (λ c.
+    let at = c .before .before .before .before in
     let a = at .before .before .before .args in
     let z = a .line .now in
     let i = at .loop .i in
     let inv = at .loop .inv in
     let b = c .before .read-byte .ensures in
-    let more : i + 1 < length z = omega arith in (
+    let more : i + 1 < length z = left z i (c .before .before .before .is-read .ensures) (c .before .before .if1 .taken) in (
       omega arith,
       omega arith,
       simp length-set (inv .2),
       ap₂ _&&_ (inv .3) (ap (λ (r : ReadByte). r .digits) b) ∙ sym (digits-next z i more),
       ap₂ (λ (s : List ℕ) (v : ℕ). set s (i / 2) v) (inv .4) (ap (λ (r : ReadByte). r .value) b) ∙ turn (a .frame .now) z i more (inv .0) (omega arith),
     ))
-    (λ c. c .before .loop .inv .2)
+    (λ c. c .before .before .loop .inv .2)
     (λ c.
-    let a = c .before .before .before .before .args in
-    let inv = c .before .loop .inv in
-    let all : take (c .before .loop .i) (a .line .now) ≡ a .line .now = take-all (c .before .loop .i) (a .line .now) (omega arith) in
-    (inv .3 ∙ ap allDigits all, inv .4 ∙ ap (λ (z : List ℕ). over (a .frame .now) 0 (frameOf z)) all)))
+    let at = c .before .before in
+    let a = at .before .before .before .args in
+    let z = a .line .now in
+    let inv = at .loop .inv in
+    let all : take (at .loop .i) z ≡ z = take-all (at .loop .i) z (omega (arith, none z (at .loop .i) (c .before .is-read .ensures) (c .if1 .left))) in
+    (inv .3 ∙ ap allDigits all, inv .4 ∙ ap (λ (y : List ℕ). over (a .frame .now) 0 (frameOf y)) all)))
