@@ -7,7 +7,7 @@ use Rattle.frames.specs.Needs.{needOf}
 use Rattle.frames.specs.Requests.{fixedLength, lengthByte, authorityRequest, threadRequest, objectRequest, outsideRequest, wellFormed, requestBy}
 use Rattle.links.specs.Authority.{actsForSome}
 use Rattle.links.specs.Cycles.{everyLink, noCycle}
-use Rattle.links.specs.Links.{linksFrom, findFrom, removed}
+use Rattle.links.specs.Links.{linksFrom, findFrom, gapClosed}
 use Rattle.links.specs.Paths.{joins, leads}
 use Rattle.memory.specs.Remembered.{without, remembered}
 use Rattle.numbers.specs.Below.{allBelow, anyBelow, countBelow}
@@ -19,5 +19,5 @@ use Rattle.tables.specs.Free.{firstOf}
 use Rattle.assurance.specs.Cases.{AllCases, allHold, runsTo, same}
 
 pub all-cases : AllCases
-unfolding allHold runsTo same newPrincipal delegate revoke tellsActsFor tagIfRoom newTag newSubtag grant ungrant newObject put get lock outOfSecrecy intoIntegrity returned fork call needOf fixedLength lengthByte authorityRequest threadRequest objectRequest outsideRequest wellFormed requestBy actsForSome everyLink noCycle linksFrom findFrom removed joins leads without remembered allBelow anyBelow countBelow within withTag withoutTag union namesOnlyMade size setOf prelude outcome firstOf
+unfolding allHold runsTo same newPrincipal delegate revoke tellsActsFor tagIfRoom newTag newSubtag grant ungrant newObject put get lock outOfSecrecy intoIntegrity returned fork call needOf fixedLength lengthByte authorityRequest threadRequest objectRequest outsideRequest wellFormed requestBy actsForSome everyLink noCycle linksFrom findFrom gapClosed joins leads without remembered allBelow anyBelow countBelow within withTag withoutTag union namesOnlyMade size setOf prelude outcome firstOf
 all-cases = refl

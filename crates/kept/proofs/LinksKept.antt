@@ -20,7 +20,7 @@ use Rattle.links.specs.declared.lists.Found.{Found}
 use Rattle.links.specs.declared.lists.Graph.{Graph}
 use Rattle.links.specs.declared.lists.Graph.the-variants.{Principals, OfTag}
 use Rattle.links.specs.Paths.{Link, joins, Path}
-use Rattle.links.specs.Links.{isLinkOf, baseOf, linksIn, linkNumber, findFrom, isFound, stands, appended, removed}
+use Rattle.links.specs.Links.{isLinkOf, baseOf, linksIn, linkNumber, findFrom, isFound, stands, appended, removed, gapClosed}
 use Rattle.links.specs.Cycles.{NoCycle, closesCycle}
 use Rattle.links.proofs.PathLaws.{Among, joins-tail, path-unlinked, leads-is}
 use Rattle.links.proofs.LinkLaws.{Names, test-names, joins-number, said}
@@ -162,7 +162,7 @@ module _ (l : List ℕ) (n i : ℕ) (h : i < n) (fits : n ≤ length l) where
 
   -- a removal puts them together
   removed-cut : removed l n i ≡ front ++ (back ++ (0 ∷ drop n l))
-  unfolding removed
+  unfolding gapClosed
   removed-cut = rw (lt-ltb i (min n (length l)) (omega arith))
 
   -- how long they are

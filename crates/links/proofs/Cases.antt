@@ -11,7 +11,7 @@ use Rattle.links.specs.declared.lists.Found.the-variants.{At, Nothing}
 use Rattle.links.specs.declared.authority.Rooted.{Rooted}
 use Rattle.links.specs.declared.authority.Lineage.the-variants.{Supertag, Subtag}
 use Rattle.links.specs.Paths.{leads}
-use Rattle.links.specs.Links.{linksFrom, linkNumber, findIn, findFrom, appended, removed}
+use Rattle.links.specs.Links.{linksFrom, linkNumber, findIn, findFrom, appended, removed, gapClosed}
 use Rattle.links.specs.Authority.{actsFor, actsForSome, authoritative}
 
 person : ℕ → Principal
@@ -48,7 +48,7 @@ unfolding leads person tag link actsForSome anyBelow linksFrom
 case-6-granted = refl
 
 case-6-withdrawn : authoritative [] (removed (link 1 2 ∷ link 2 3 ∷ []) 2 0) 1 (Supertag (tag 0 1)) (person 3) ≡ false
-unfolding leads person tag link actsForSome anyBelow linksFrom removed
+unfolding leads person tag link actsForSome anyBelow linksFrom gapClosed
 case-6-withdrawn = refl
 
 case-6-restored : authoritative [] (link 2 3 ∷ link 1 2 ∷ []) 2 (Supertag (tag 0 1)) (person 3) ≡ true

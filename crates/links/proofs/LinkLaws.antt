@@ -90,7 +90,7 @@ joins-number base (x ∷ xs) p q e =
 -- ---- the places in use, and where a graph's numbers start
 
 -- a count over the number of places is as good as that number
-pub take-used : (l : List ℕ) (n : ℕ) → take (min n (length l)) l ≡ take n l
+pub take-used : {A : Type 0} (l : List A) (n : ℕ) → take (min n (length l)) l ≡ take n l
 take-used l n =
     ⊎-elim
     (λ t. ap (λ (k : ℕ). take k l) (let e : min n (length l) ≡ n = omega (arith, leb-true n (length l) t) in e))
@@ -99,7 +99,7 @@ take-used l n =
     ap (λ (k : ℕ). take k l) (let e : min n (length l) ≡ length l = omega arith in e) ∙ take-length l ∙ sym (take-all n l (omega arith)))
     (either (leb n (length l)))
 
-pub drop-used : (l : List ℕ) (n : ℕ) → drop (min n (length l)) l ≡ drop n l
+pub drop-used : {A : Type 0} (l : List A) (n : ℕ) → drop (min n (length l)) l ≡ drop n l
 drop-used l n =
     ⊎-elim
     (λ t. ap (λ (k : ℕ). drop k l) (let e : min n (length l) ≡ n = omega (arith, leb-true n (length l) t) in e))

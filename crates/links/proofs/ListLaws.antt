@@ -14,7 +14,7 @@ use lib.Seq.{length-take-le, take-all, take-suc-set, take-append-le, take-take, 
 use Rattle.numbers.proofs.Bools.{or-left, either}
 use Rattle.links.specs.declared.lists.Graph.{Graph}
 use Rattle.links.specs.Paths.{Link, joins, Path}
-use Rattle.links.specs.Links.{isLinkOf, linksFrom, baseOf, linksIn, appended, removed}
+use Rattle.links.specs.Links.{isLinkOf, linksFrom, baseOf, linksIn, appended, removed, gapClosed}
 use Rattle.links.specs.Cycles.{NoCycle}
 use Rattle.links.proofs.CycleLaws.{noCycle-fewer, noCycle-more}
 use Rattle.links.proofs.PathLaws.{Among}
@@ -76,7 +76,7 @@ module _ (l : List ℕ) (n i : ℕ) (g : Graph) (h : i < n) (fits : n ≤ length
 
   -- and after it: the same but for that of place i
   pub removed-links : linksIn (removed l n i) (n - 1) g ≡ linksFrom (baseOf g) front ++ linksFrom (baseOf g) back
-  unfolding removed
+  unfolding gapClosed
   removed-links =
       let size : length (front ++ back) ≡ n - 1 =
       length-append front back

@@ -54,9 +54,12 @@ abbrev pub stands : List ℕ → ℕ → ℕ → Bool
 stands l n x = isFound (findIn (take n l) x)
 
 -- "in order of acceptance": x at place n, where there is one
-abbrev pub appended : List ℕ → ℕ → ℕ → List ℕ
+abbrev pub appended : {A : Type 0} → List A → ℕ → A → List A
 appended l n x = cond (ltb n (length l)) (set l n x) l
 
--- "A removal closes the gap": of the first n places, the one at i is gone, and the last becomes zero
-unfoldable pub removed : List ℕ → ℕ → ℕ → List ℕ
-removed l n i = cond (ltb i (min n (length l))) (take i l ++ (drop (suc i) (take n l) ++ (0 ∷ drop n l))) l
+-- "A removal closes the gap": of the first n places, the one at i is gone, and the last becomes zero, which is z
+unfoldable pub gapClosed : {A : Type 0} → A → List A → ℕ → ℕ → List A
+gapClosed z l n i = cond (ltb i (min n (length l))) (take i l ++ (drop (suc i) (take n l) ++ (z ∷ drop n l))) l
+
+abbrev pub removed : List ℕ → ℕ → ℕ → List ℕ
+removed l n i = gapClosed 0 l n i

@@ -23,4 +23,5 @@ pub use lists::principal_link;
 pub use lists::remove;
 pub use lists::stands;
 pub use lists::tag_link;
+pub use lists::used;
 pub use walk::leads;

@@ -1,15 +1,16 @@
 -- What the entry leaves, by the tests it makes: 10, 9, or the step's own. Assumes nothing.
 use mathlib.Core.Path.{_≡_, refl}
-use mathlib.Core.Bool.{true, false, not}
+use mathlib.Core.Bool.{Bool, true, false, not, cond}
 use mathlib.Core.List.{List}
 use Prim.Native.Nat.{ℕ}
 use lib.Dec.{ltb}
 use lib.ListN.{length}
 use Rattle.numbers.proofs.Chain.{skip, hit}
 use Rattle.rules.specs.Tested.{breakNoRule}
+use Rattle.apply.specs.Apply.{applyList}
 use Rattle.state.specs.declared.State.{State}
-use Rattle.step.specs.Step.{stepped}
-use Rattle.monitor.specs.Monitor.{shortestBuffer, noRoom, broken, requested}
+use Rattle.step.specs.Step.{stepped, stepOf}
+use Rattle.monitor.specs.Monitor.{shortestBuffer, quiet, noRoom, broken, requested, replyOf}
 
 module _ (s : State) (l g b f a : List ℕ) where
   pub when-short : ltb (length a) shortestBuffer ≡ true → noRoom s l g b f a ≡ requested s l g b f a
@@ -23,3 +24,46 @@ module _ (s : State) (l g b f a : List ℕ) where
   pub when-sound : ltb (length a) shortestBuffer ≡ false → not (breakNoRule (s .tables) (s .memory) l g b) ≡ false → stepped s l g b f a ≡ requested s l g b f a
   unfolding requested
   when-sound e q = skip _ e (skip _ q refl)
+
+  -- ---- what is told of it, by the same tests
+
+  pub told-short : ltb (length a) shortestBuffer ≡ true → quiet (noRoom s l g b f a .replied) ≡ replyOf s l g b f a
+  unfolding replyOf
+  told-short e = hit _ e refl
+
+  pub told-broken : ltb (length a) shortestBuffer ≡ false → not (breakNoRule (s .tables) (s .memory) l g b) ≡ true → quiet (broken s l g b f a .replied) ≡ replyOf s l g b f a
+  unfolding replyOf
+  told-broken e q = skip _ e (hit _ q refl)
+
+  pub told-sound : ltb (length a) shortestBuffer ≡ false → not (breakNoRule (s .tables) (s .memory) l g b) ≡ false → stepOf s l g b f a ≡ replyOf s l g b f a
+  unfolding replyOf
+  told-sound e q = skip _ e (skip _ q refl)
+
+  -- ---- what is told is what happens
+
+  pub told-replied : replyOf s l g b f a .replied ≡ requested s l g b f a .replied
+  unfolding requested replyOf
+  told-replied = all (ltb (length a) shortestBuffer) (not (breakNoRule (s .tables) (s .memory) l g b))
+    where
+      all : (x y : Bool) → cond x (quiet (noRoom s l g b f a .replied)) (cond y (quiet (broken s l g b f a .replied)) (stepOf s l g b f a)) .replied ≡ cond x (noRoom s l g b f a) (cond y (broken s l g b f a) (stepped s l g b f a)) .replied
+      all true y = refl
+      all false true = refl
+      all false false = refl
+
+  pub told-links : applyList (replyOf s l g b f a .links) (s .tables .links) l ≡ requested s l g b f a .links
+  unfolding requested replyOf
+  told-links = all (ltb (length a) shortestBuffer) (not (breakNoRule (s .tables) (s .memory) l g b))
+    where
+      all : (x y : Bool) → applyList (cond x (quiet (noRoom s l g b f a .replied)) (cond y (quiet (broken s l g b f a .replied)) (stepOf s l g b f a)) .links) (s .tables .links) l ≡ cond x (noRoom s l g b f a) (cond y (broken s l g b f a) (stepped s l g b f a)) .links
+      all true y = refl
+      all false true = refl
+      all false false = refl
+
+  pub told-grants : applyList (replyOf s l g b f a .grants) (s .tables .grants) g ≡ requested s l g b f a .grants
+  unfolding requested replyOf
+  told-grants = all (ltb (length a) shortestBuffer) (not (breakNoRule (s .tables) (s .memory) l g b))
+    where
+      all : (x y : Bool) → applyList (cond x (quiet (noRoom s l g b f a .replied)) (cond y (quiet (broken s l g b f a .replied)) (stepOf s l g b f a)) .grants) (s .tables .grants) g ≡ cond x (noRoom s l g b f a) (cond y (broken s l g b f a) (stepped s l g b f a)) .grants
+      all true y = refl
+      all false true = refl
+      all false false = refl

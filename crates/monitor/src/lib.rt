@@ -1,20 +1,65 @@
-// The single-request entry: any bytes, any tables, lists and buffers of any length. 10, then 9, then the step.
+// The single request: any bytes, any tables, lists and buffers of any length. 10, then 9, then the step.
 //
-// The parameters, in this order: the state, the two lent lists of links, the lent store of messages, the
-// frame, the lent answer buffer.
+// The parameters, in this order: the state, the two lists of links, the lent store of messages, the frame, the
+// lent answer buffer.
 ghost use mathlib.Core.Path.{_≡_};
-ghost use Rattle.monitor.specs.Monitor.{requested};
+ghost use Rattle.monitor.specs.Monitor.{requested, quiet, replyOf};
 use answers::Answer;
 use answers::Refusal;
 use answers::write;
+use apply::apply_list;
+use outcomes::ListChange;
 use rules::break_no_rule;
 use state::State;
 use step::Replied;
+use step::Stepped;
 use step::step;
 
 // The room that every answer has: its status, a length byte and 32 bytes.
 pub const ROOM: usize = 34;
 
+// Nothing changes in the lists.
+fn quiet(status: u8, written: usize, state: State) -> Stepped
+    ensures { λ r. ⌜ r ≡ quiet (record { status = status; written = written; state = state }) ⌝ }
+{
+    let replied = Replied {
+        status,
+        written,
+        state,
+    };
+    Stepped {
+        replied,
+        links: ListChange::Keep,
+        grants: ListChange::Keep,
+    }
+}
+
+// All of a request but the lists: what is to change in them is told.
+pub fn reply<'a>(
+    s: State,
+    links: &'a [u32],
+    grants: &'a [u32],
+    store: &mut [u8],
+    frame: &'a [u8],
+    answer: &mut [u8],
+) -> Stepped
+    ensures { λ r. ⌜ r ≡ replyOf s (now (links .entry)) (now (grants .entry)) (now (store .entry)) (now (frame .entry)) (now (answer .entry)) ⌝ }
+    ensures { λ _. ⌜ now (store .exit) ≡ requested s (now (links .entry)) (now (grants .entry)) (now (store .entry)) (now (frame .entry)) (now (answer .entry)) .store ⌝ }
+    ensures { λ _. ⌜ now (answer .exit) ≡ requested s (now (links .entry)) (now (grants .entry)) (now (store .entry)) (now (frame .entry)) (now (answer .entry)) .answer ⌝ }
+{
+    if answer.len() < ROOM {
+        return quiet(10, 0, s);
+    }
+    let t = s.tables;
+    let m = s.memory;
+    if !break_no_rule(t, m, links, grants, store) {
+        write(Answer::Refused(Refusal::BrokenRule), frame, store, answer);
+        return quiet(9, 1, s);
+    }
+    step(s, links, grants, store, frame, answer)
+}
+
+// The same where the lists are lent, as numbers: they are changed too.
 pub fn request(
     s: State,
     links: &mut [u32],
@@ -29,22 +74,11 @@ pub fn request(
     ensures { λ _. ⌜ now (store .exit) ≡ requested s (now (links .entry)) (now (grants .entry)) (now (store .entry)) (now (frame .entry)) (now (answer .entry)) .store ⌝ }
     ensures { λ _. ⌜ now (answer .exit) ≡ requested s (now (links .entry)) (now (grants .entry)) (now (store .entry)) (now (frame .entry)) (now (answer .entry)) .answer ⌝ }
 {
-    if answer.len() < ROOM {
-        return Replied {
-            status: 10,
-            written: 0,
-            state: s,
-        };
-    }
+    let r = reply(s, links, grants, store, frame, answer);
     let t = s.tables;
-    let m = s.memory;
-    if !break_no_rule(t, m, links, grants, store) {
-        write(Answer::Refused(Refusal::BrokenRule), frame, store, answer);
-        return Replied {
-            status: 9,
-            written: 1,
-            state: s,
-        };
-    }
-    step(s, links, grants, store, frame, answer)
+    let of_links = r.links;
+    let of_grants = r.grants;
+    apply_list(of_links, t.links, links);
+    apply_list(of_grants, t.grants, grants);
+    r.replied
 }

@@ -29,6 +29,7 @@ use Rattle.decide.specs.Decide.{decide}
 use Rattle.state.specs.declared.State.{State}
 use Rattle.step.specs.declared.Considered.{Considered}
 use Rattle.step.specs.declared.Replied.{Replied}
+use Rattle.step.specs.declared.Stepped.{Stepped}
 use Rattle.step.specs.World.{World, worldOf, applied}
 
 abbrev pub passes : Checked → Bool
@@ -144,3 +145,7 @@ module _ (s : State) (l g b f a : List ℕ) where
 
   abbrev pub stepped : After
   stepped = answeredWith (stepWorld w m f) (stepMemory w m f) (comesTo w m f .outcome .answer) (stepAnswer w m f) a
+
+  -- what it leaves beside the lent buffers, and what changes in the lists
+  abbrev pub stepOf : Stepped
+  stepOf = record { replied = stepped .replied; links = comesTo w m f .outcome .links; grants = comesTo w m f .outcome .grants }

@@ -23,16 +23,17 @@ abbrev pub withCounts : Tables → ℕ → ℕ → Tables
 withCounts t n k =
     record { principals = t .principals; links = n; tags = t .tags; grants = k; threads = t .threads; kinds = t .kinds; objects = t .objects }
 
-module _ (w : World) (f : List ℕ) (o : Outcome) where
-  abbrev pub appliedTables : Tables
-  appliedTables =
-      withCounts (applyRows (w .tables) (threadOf f .0) (o .rows)) (countAfter (o .links) (w .tables .links)) (countAfter (o .grants) (w .tables .grants))
+-- the tables once what frame f came to is carried out
+abbrev pub appliedTables : Tables → List ℕ → Outcome → Tables
+appliedTables t f o =
+    withCounts (applyRows t (threadOf f .0) (o .rows)) (countAfter (o .links) (t .links)) (countAfter (o .grants) (t .grants))
 
+module _ (w : World) (f : List ℕ) (o : Outcome) where
   -- what frame f came to is carried out
   abbrev pub applied : World
   applied =
       record {
-        tables = appliedTables;
+        tables = appliedTables (w .tables) f o;
         links = applyList (o .links) (w .tables .links) (w .links);
         grants = applyList (o .grants) (w .tables .grants) (w .grants);
         store = applyStore (o .store) f (w .store);

@@ -3,20 +3,21 @@
 // rule but the truth of remembered pairs: there a held pair is a yes whatever the links say.
 //
 // What is decided sees only the answer to the question, not the memory; and nothing is changed before all is
-// decided.
+// decided. The lists of links are only read: what changes in them is told, and whoever holds them changes them.
 ghost use mathlib.Core.Path.{_≡_};
 ghost use mathlib.Core.Bool.{true};
 ghost use Prim.Native.Nat.{_≤_};
 ghost use lib.ListN.{length};
 ghost use Rattle.memory.specs.Remembered.{Fits};
 ghost use Rattle.rules.specs.Tested.{holdButTruth};
-ghost use Rattle.step.specs.World.{worldOf, withCounts, applied, HasRoom};
-ghost use Rattle.step.specs.Step.{considered, rowFollowed, removes, remembers, stepped};
+ghost use Rattle.frames.specs.Requests.{threadOf};
+ghost use Rattle.apply.specs.Apply.{applyStore, ListFits, StoreFits, RowFits};
+ghost use Rattle.step.specs.World.{withCounts, appliedTables};
+ghost use Rattle.step.specs.Step.{considered, rowFollowed, removes, remembers, stepped, stepOf};
 use answers::Refusal;
 use answers::length_of;
 use answers::status_of;
 use answers::write;
-use apply::apply_list;
 use apply::apply_store;
 use apply::count_after;
 use apply::rows::apply_rows;
@@ -51,6 +52,13 @@ pub struct Replied {
     pub status: u8,
     pub written: usize,
     pub state: State,
+}
+
+// The same, and what is to change in the lists of links, which stay as they are.
+pub struct Stepped {
+    pub replied: Replied,
+    pub links: ListChange,
+    pub grants: ListChange,
 }
 
 // Past 2, 3 and 4: the question, where there is one, and the kind's row.
@@ -146,20 +154,11 @@ fn with_counts(t: Tables, n: usize, k: usize) -> Tables
     u
 }
 
-// What was decided is done.
-fn carry_out(
-    t: Tables,
-    links: &mut [u32],
-    grants: &mut [u32],
-    store: &mut [u8],
-    frame: &[u8],
-    o: Outcome,
-) -> Tables
-    requires { ⌜ HasRoom (worldOf t (now links) (now grants) (now store)) (now frame) o ⌝ }
-    ensures { λ r. ⌜ r ≡ applied (worldOf t (now (links .entry)) (now (grants .entry)) (now (store .entry))) (now (frame .entry)) o .tables ⌝ }
-    ensures { λ _. ⌜ now (links .exit) ≡ applied (worldOf t (now (links .entry)) (now (grants .entry)) (now (store .entry))) (now (frame .entry)) o .links ⌝ }
-    ensures { λ _. ⌜ now (grants .exit) ≡ applied (worldOf t (now (links .entry)) (now (grants .entry)) (now (store .entry))) (now (frame .entry)) o .grants ⌝ }
-    ensures { λ _. ⌜ now (store .exit) ≡ applied (worldOf t (now (links .entry)) (now (grants .entry)) (now (store .entry))) (now (frame .entry)) o .store ⌝ }
+// What was decided is done to the rows and the store, and the counts of links follow their lists.
+fn carry_out(t: Tables, store: &mut [u8], frame: &[u8], o: Outcome) -> Tables
+    requires { ⌜ RowFits t (threadOf (now frame) .0) (o .rows) × (ListFits (o .links) (t .links) × (ListFits (o .grants) (t .grants) × StoreFits (o .store) (now frame) (now store))) ⌝ }
+    ensures { λ r. ⌜ r ≡ appliedTables t (now (frame .entry)) o ⌝ }
+    ensures { λ _. ⌜ now (store .exit) ≡ applyStore (o .store) (now (frame .entry)) (now (store .entry)) ⌝ }
 {
     let of_links = o.links;
     let of_grants = o.grants;
@@ -168,26 +167,22 @@ fn carry_out(
     let rows = apply_rows(t, byte_at(frame, 0) as usize, of_rows);
     let n = t.links;
     let k = t.grants;
-    apply_list(of_links, n, links);
-    apply_list(of_grants, k, grants);
     apply_store(of_store, frame, store);
     with_counts(rows, count_after(of_links, n), count_after(of_grants, k))
 }
 
-// One request: its answer is written, and what it changes is changed. The answer comes first, because a
-// message that is taken from its queue is read from the store.
-pub fn step(
+// One request: its answer is written, and what it changes beside the lists is changed. The answer comes first,
+// because a message that is taken from its queue is read from the store.
+pub fn step<'a>(
     s: State,
-    links: &mut [u32],
-    grants: &mut [u32],
+    links: &'a [u32],
+    grants: &'a [u32],
     store: &mut [u8],
-    frame: &[u8],
+    frame: &'a [u8],
     answer: &mut [u8],
-) -> Replied
+) -> Stepped
     requires { ⌜ (holdButTruth (s .tables) (s .memory) (now links) (now grants) (now store) ≡ true) × (34 ≤ length (now answer)) ⌝ }
-    ensures { λ r. ⌜ r ≡ stepped s (now (links .entry)) (now (grants .entry)) (now (store .entry)) (now (frame .entry)) (now (answer .entry)) .replied ⌝ }
-    ensures { λ _. ⌜ now (links .exit) ≡ stepped s (now (links .entry)) (now (grants .entry)) (now (store .entry)) (now (frame .entry)) (now (answer .entry)) .links ⌝ }
-    ensures { λ _. ⌜ now (grants .exit) ≡ stepped s (now (links .entry)) (now (grants .entry)) (now (store .entry)) (now (frame .entry)) (now (answer .entry)) .grants ⌝ }
+    ensures { λ r. ⌜ r ≡ stepOf s (now (links .entry)) (now (grants .entry)) (now (store .entry)) (now (frame .entry)) (now (answer .entry)) ⌝ }
     ensures { λ _. ⌜ now (store .exit) ≡ stepped s (now (links .entry)) (now (grants .entry)) (now (store .entry)) (now (frame .entry)) (now (answer .entry)) .store ⌝ }
     ensures { λ _. ⌜ now (answer .exit) ≡ stepped s (now (links .entry)) (now (grants .entry)) (now (store .entry)) (now (frame .entry)) (now (answer .entry)) .answer ⌝ }
 {
@@ -199,13 +194,20 @@ pub fn step(
     let status = status_of(a);
     let written = length_of(a, frame, store);
     write(a, frame, store, answer);
-    let tables = carry_out(t, links, grants, store, frame, o);
+    let tables = carry_out(t, store, frame, o);
     let asked = c.memory;
     let memory = remember(o, asked);
     let state = State { tables, memory };
-    Replied {
+    let replied = Replied {
         status,
         written,
         state,
+    };
+    let of_links = o.links;
+    let of_grants = o.grants;
+    Stepped {
+        replied,
+        links: of_links,
+        grants: of_grants,
     }
 }

@@ -18,19 +18,13 @@ carry-out-spec =
     (tie.spec
     (λ c κs. search needs)
     (λ c. search needs)
-    (λ c κs. subst (λ (n : ℕ). RowFits (c .before .before .before .before .before .args .t) n (c .before .before .before .before .before .args .o .rows)) (sym (c .byte-at .ensures)) (c .before .before .before .before .before .pre .rows))
+    (λ c κs. subst (λ (n : ℕ). RowFits (c .before .before .before .args .t) n (c .before .before .before .args .o .rows)) (sym (c .byte-at .ensures)) (c .before .before .before .pre .0))
+    (λ c κs. c .before .before .before .before .before .pre .1 .1 .1)
+    (λ c κs. c .before .before .before .before .before .before .before .before .pre .1 .0)
+    (λ c κs. c .before .before .before .before .before .before .before .before .before .pre .1 .1 .0)
     (λ c κs. search needs)
-    (λ c κs. search needs)
-    (λ c κs. search needs)
-    (λ c κs. search needs)
-    (λ c κs. search needs)
-    (λ c κs. search needs)
-    (λ c. search needs)
-    (λ c. search needs)
     (λ c. search needs)
     (λ c.
-    let a = c .before .before .before .before .before .before .before .before .before .before .before .before .before .before .before .before .before .before .before .before .before .args in
-    let rows = c .before .before .before .before .before .before .before .before .before .before .before .before .before .before .before .apply-rows .ensures ∙ ap (λ (n : ℕ). applyRows (a .t) n (a .o .rows)) (c .before .before .before .before .before .before .before .before .before .before .before .before .before .before .before .before .byte-at .ensures) in (
-      c .with-counts .ensures ∙ counts-same rows (c .before .before .count-after .ensures) (c .before .count-after2 .ensures),
-      (c .before .before .before .before .before .before .before .before .before .before .before .before .before .apply-list .ensures, (c .before .before .before .before .before .before .before .before .before .apply-list2 .ensures, c .before .before .before .before .before .apply-store .ensures)),
-    )))
+    let a = c .before .before .before .before .before .before .before .before .before .before .before .args in
+    let rows = c .before .before .before .before .before .before .before .apply-rows .ensures ∙ ap (λ (n : ℕ). applyRows (a .t) n (a .o .rows)) (c .before .before .before .before .before .before .before .before .byte-at .ensures) in
+    (c .with-counts .ensures ∙ counts-same rows (c .before .before .count-after .ensures) (c .before .count-after2 .ensures), c .before .before .before .before .before .apply-store .ensures)))

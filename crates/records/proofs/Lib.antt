@@ -1,0 +1,14 @@
+pub mod Appending
+pub mod Changing
+pub mod Element
+pub mod FindLaws
+pub mod Finding
+pub mod GatherLaws
+pub mod Gathering
+pub mod LocalArray
+pub mod Numbering
+pub mod PuttingBack
+pub mod Removing
+pub mod Shelf
+pub mod Steps
+pub mod Told
