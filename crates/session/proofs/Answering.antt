@@ -1,7 +1,7 @@
 -- What a whole line leaves: its frame's request, or a refusal 1; and that the answer of either lies within its buffer. Assumes nothing.
 use mathlib.Core.Path.{_≡_, refl, sym, ap, ap₂, _∙_}
 use mathlib.Core.Bool.{true, false, not, cond}
-use mathlib.Core.List.{List, [], _∷_}
+use mathlib.Core.List.{List, [], _∷_, map}
 use Prim.Native.Nat.{ℕ, _+_, _/_, _≤_, _<_}
 use native.Mathlib.Omega.{arith}
 use lib.Dec.{ltb}
@@ -15,11 +15,14 @@ use Rattle.lines.specs.Lines.{lineFeed, frameOf, allDigits, rightLength, isFram
 use Rattle.lines.proofs.LineLaws.{frame-length, digits-length}
 use Rattle.rules.specs.Tested.{breakNoRule}
 use Rattle.monitor.specs.Monitor.{shortestBuffer, noRoom, broken, requested}
+use Rattle.records.specs.Records.{principalNumber, tagNumber}
+use Rattle.entry.specs.declared.Lists.{Lists}
+use Rattle.entry.specs.Entry.{overRecords, listsOf}
 use Rattle.state.specs.declared.State.{State}
 use Rattle.step.specs.declared.Replied.{Replied}
 use Rattle.step.specs.Step.{After, before, stepAnswer, stepped}
 use Rattle.store.specs.Store.{over}
-use Rattle.session.specs.Session.{Session, lineBytes, lineAnswered, turn, endOf, printed}
+use Rattle.session.specs.Session.{Session, lineBytes, lineAnswered, answeredLists, turn, turned, endOf, printed}
 
 -- ---- a line z that is a frame, or that is none
 
@@ -38,17 +41,23 @@ module _ (z l r : List ℕ) (e : isFrame z ≡ true) (q : r ≡ cond (rightLengt
   pub frame-fits : length z / 2 ≤ length r
   frame-fits = omega (arith, frame-count, length-take (length z / 2) r)
 
-module _ (s : State) (l g b z a : List ℕ) where
+module _ (s : State) (x : Lists) (b z a : List ℕ) where
   -- a frame is a request
-  pub when-frame : isFrame z ≡ true → requested s l g b (frameOf z) a ≡ lineAnswered s l g b z a
+  pub when-frame : isFrame z ≡ true → overRecords s (x .links) (x .grants) b (frameOf z) a ≡ lineAnswered s x b z a
   when-frame e = hit _ e refl
+
+  pub lists-frame : isFrame z ≡ true → listsOf (overRecords s (x .links) (x .grants) b (frameOf z) a) ≡ answeredLists s x b z a
+  lists-frame e = hit _ e refl
 
   -- any other line is refused 1
   pub when-none :
       isFrame z ≡ false → 0 < length a
-      → record { replied = record { status = 1; written = 1; state = s }; links = l; grants = g; store = b; answer = set a 0 1 } ≡ lineAnswered s l g b z a
+      → record { replied = record { status = 1; written = 1; state = s }; links = map principalNumber (x .links); grants = map tagNumber (x .grants); store = b; answer = set a 0 1 } ≡ lineAnswered s x b z a
   when-none e h =
-      skip _ e (ap (λ (x : List ℕ). record { replied = record { status = 1; written = 1; state = s }; links = l; grants = g; store = b; answer = x }) (set-split a 0 1 h))
+      skip _ e (ap (λ (v : List ℕ). record { replied = record { status = 1; written = 1; state = s }; links = map principalNumber (x .links); grants = map tagNumber (x .grants); store = b; answer = v }) (set-split a 0 1 h))
+
+  pub lists-none : isFrame z ≡ false → x ≡ answeredLists s x b z a
+  lists-none e = skip _ e refl
 
 -- ---- where the answer buffer keeps its length, what was written lies within it
 
@@ -71,18 +80,19 @@ requested-within s l g b f a =
 
 -- a line's answer
 pub answered-within :
-    (s : State) (l g b z a : List ℕ) → length (lineAnswered s l g b z a .answer) ≡ length a → lineAnswered s l g b z a .replied .written ≤ length a
-answered-within s l g b z a =
-    by-test (Within (length a)) (isFrame z) (λ _. requested-within s l g b (frameOf z) a) (λ _. front-within (refusalNumber Malformed ∷ []) a)
+    (s : State) (x : Lists) (b z a : List ℕ) → length (lineAnswered s x b z a .answer) ≡ length a → lineAnswered s x b z a .replied .written ≤ length a
+answered-within s x b z a =
+    by-test (Within (length a)) (isFrame z) (λ _. requested-within s (map principalNumber (x .links)) (map tagNumber (x .grants)) b (frameOf z) a)
+    (λ _. front-within (refusalNumber Malformed ∷ []) a)
 
 -- ---- the end of a line: its answer r is in the buffer m
 
-pub record Answered (z : Session) (r : Replied) (m : List ℕ) : Type 0 where
+pub record LineAnswered (z : Session) (r : Replied) (m : List ℕ) : Type 0 where
   pub reply : r ≡ turn z .replied
   pub buffer : m ≡ turn z .answer
   pub kept : length m ≡ shortestBuffer
 
-module _ {z : Session} {r : Replied} {m : List ℕ} (a : Answered z r m) where
+module _ {z : Session} {r : Replied} {m : List ℕ} (a : LineAnswered z r m) where
   -- what was written lies within the buffer
   pub written-fits : r .written ≤ length m
   written-fits =
@@ -90,7 +100,7 @@ module _ {z : Session} {r : Replied} {m : List ℕ} (a : Answered z r m) where
         arith,
         ap (λ (x : Replied). x .written) (a .reply),
         a .kept,
-        answered-within (z .state) (z .links) (z .grants) (z .store) (lineBytes (z .line)) (replicate shortestBuffer 0) (sym (ap length (a .buffer)) ∙ a .kept),
+        answered-within (z .state) (z .lists) (z .store) (lineBytes (z .line)) (replicate shortestBuffer 0) (sym (ap length (a .buffer)) ∙ a .kept),
       )
 
   -- it is no longer than the longest answer
@@ -113,5 +123,7 @@ module _ {z : Session} {r : Replied} {m : List ℕ} (a : Answered z r m) where
       d ∙ ap length printed-is
 
   -- what the line's end leaves beside the lent buffers
-  pub end-is : record { state = r .state; written = r .written + r .written + 1 } ≡ endOf z
-  end-is = ap₂ (λ (x : State) (n : ℕ). record { state = x; written = n }) (ap (λ (x : Replied). x .state) (a .reply)) printed-length
+  pub end-is : {x : Lists} → x ≡ turned z .lists → record { state = r .state; lists = x; written = r .written + r .written + 1 } ≡ endOf z
+  end-is {x} e =
+      ap₂ (λ (s : State) (n : ℕ). record { state = s; lists = x; written = n }) (ap (λ (v : Replied). v .state) (a .reply)) printed-length
+      ∙ ap (λ (v : Lists). record { state = turned z .state; lists = v; written = length (printed z) }) e

@@ -26,21 +26,17 @@ module _ (z : Session) (o : List ℕ) (at : ℕ) where
   -- it leaves the session y and the buffer p; n bytes were written, and k says whether there was room
   abbrev pub Finishes : Session → List ℕ → ℕ → Bool → Type 0
   Finishes y p n k =
-      (record { state = y .state; written = n; complete = k } ≡ finished z o at)
-      × ((y .links ≡ endSession z o at .links)
-      × ((y .grants ≡ endSession z o at .grants) × ((y .store ≡ endSession z o at .store) × (p ≡ over o at (endBytes z o at)))))
+      (record { state = y .state; lists = y .lists; written = n; complete = k } ≡ finished z o at)
+      × ((y .store ≡ endSession z o at .store) × (p ≡ over o at (endBytes z o at)))
 
   -- all of it, from what it leaves and the bytes bs
   finishes :
       {y : Session} {bs p : List ℕ} {n : ℕ} {k : Bool} → y ≡ endSession z o at → bs ≡ endBytes z o at → k ≡ canEnd z o at → p ≡ over o at bs → n ≡ length bs
       → Finishes y p n k
   finishes {y} {bs} {p} {n} {k} e q c w m = (
-    ap₂ (λ (x : Session) (j : ℕ). record { state = x .state; written = j; complete = k }) e (m ∙ ap length q)
-        ∙ ap (λ (x : Bool). record { state = endSession z o at .state; written = length (endBytes z o at); complete = x }) c,
-    (
-      ap (λ (x : Session). x .links) e,
-      (ap (λ (x : Session). x .grants) e, (ap (λ (x : Session). x .store) e, w ∙ ap (over o at) q)),
-    ),
+    ap₂ (λ (x : Session) (j : ℕ). record { state = x .state; lists = x .lists; written = j; complete = k }) e (m ∙ ap length q)
+        ∙ ap (λ (x : Bool). record { state = endSession z o at .state; lists = endSession z o at .lists; written = length (endBytes z o at); complete = x }) c,
+    (ap (λ (x : Session). x .store) e, w ∙ ap (over o at) q),
   )
 
   -- no room

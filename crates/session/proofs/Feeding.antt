@@ -86,7 +86,7 @@ module _ (z : Session) (input o : List ℕ) where
 
       -- any other byte
       pub fed-byte :
-          {x : Session} → (getD input i 0 ≡ lineFeed → ⊥) → x ≡ sessionOf (y .state) (y .links) (y .grants) (y .store) (pushed (y .line) (getD input i 0))
+          {x : Session} → (getD input i 0 ≡ lineFeed → ⊥) → x ≡ sessionOf (y .state) (y .lists) (y .store) (pushed (y .line) (getD input i 0))
           → FedSoFar z input o (i + 1) x p at
       fed-byte b e =
           let none = skip (printed y) {y = []} (ne-eqb (getD input i 0) lineFeed b) refl in
@@ -103,24 +103,14 @@ module _ (z : Session) (input o : List ℕ) where
       whole = f .session ∙ ap (λ (n : ℕ). after z (take n input)) all
 
       -- and what is said of it is right
-      result : record { state = y .state; line = y .line; read = i; written = at } ≡ fed z input o
+      result : record { state = y .state; lists = y .lists; line = y .line; read = i; written = at } ≡ fed z input o
       result =
-          ap₂ (λ (v : Session) (n : ℕ). record { state = v .state; line = v .line; read = i; written = n }) (f .session) (f .wrote)
-          ∙ ap (λ (n : ℕ). record { state = after z (take n input) .state; line = after z (take n input) .line; read = n; written = length (output z (take n input)) })
+          ap₂ (λ (v : Session) (n : ℕ). record { state = v .state; lists = v .lists; line = v .line; read = i; written = n }) (f .session) (f .wrote)
+          ∙ ap (λ (n : ℕ). record { state = after z (take n input) .state; lists = after z (take n input) .lists; line = after z (take n input) .line; read = n; written = length (output z (take n input)) })
           all
 
       -- all that the block leaves
       pub fed-all :
-          (record { state = y .state; line = y .line; read = i; written = at } ≡ fed z input o)
-          × ((y .links ≡ fedSession z input o .links)
-          × ((y .grants ≡ fedSession z input o .grants) × ((y .store ≡ fedSession z input o .store) × (p ≡ over o 0 (fedBytes z input o)))))
-      fed-all = (
-        result,
-        (
-          ap (λ (v : Session). v .links) whole,
-          (
-            ap (λ (v : Session). v .grants) whole,
-            (ap (λ (v : Session). v .store) whole, f .bytes ∙ ap (λ (n : ℕ). over o 0 (output z (take n input))) all),
-          ),
-        ),
-      )
+          (record { state = y .state; lists = y .lists; line = y .line; read = i; written = at } ≡ fed z input o)
+          × ((y .store ≡ fedSession z input o .store) × (p ≡ over o 0 (fedBytes z input o)))
+      fed-all = (result, (ap (λ (v : Session). v .store) whole, f .bytes ∙ ap (λ (n : ℕ). over o 0 (output z (take n input))) all))

@@ -11,6 +11,7 @@ use lib.ListN.{length, take, drop, getD, drop-of-length-le}
 use lib.Seq.{take-suc, drop-cons}
 use Rattle.numbers.proofs.Bools.{by-test}
 use Rattle.numbers.proofs.Chain.{skip, hit}
+use Rattle.entry.specs.declared.Lists.{Lists}
 use Rattle.state.specs.declared.State.{State}
 use Rattle.session.specs.declared.Line.{Line}
 use Rattle.session.specs.Session.{Session, sessionOf, takes, says, after, output}
@@ -18,9 +19,8 @@ use Rattle.session.specs.Run.{answerRoom, readable}
 
 -- equal parts are an equal session
 pub same-session :
-    {s t : State} {l m g h b d : List ℕ} (z : Line) → s ≡ t → l ≡ m → g ≡ h → b ≡ d → sessionOf s l g b z ≡ sessionOf t m h d z
-same-session {s} {t} {l} {m} {g} {h} {b} {d} z e f k q =
-    ap₂ (λ (x : State) (y : List ℕ). sessionOf x y g b z) e f ∙ ap₂ (λ (x y : List ℕ). sessionOf t m x y z) k q
+    {s t : State} {x y : Lists} {b d : List ℕ} (z : Line) → s ≡ t → x ≡ y → b ≡ d → sessionOf s x b z ≡ sessionOf t y d z
+same-session {s} {t} {x} {y} {b} {d} z e f q = ap₂ (λ (u : State) (v : Lists). sessionOf u v b z) e f ∙ ap (λ (v : List ℕ). sessionOf t y v z) q
 
 -- ---- the promise that a list may be fed in pieces: what two pieces leave, one after the other, the whole leaves ..
 

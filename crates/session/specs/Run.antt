@@ -6,6 +6,7 @@ use Prim.Native.Nat.{ℕ, zero, suc, _+_, _-_}
 use lib.Dec.{eqb, ltb, leb}
 use lib.ListN.{length, take}
 use Rattle.state.specs.Start.{started, zeroed}
+use Rattle.entry.specs.Entry.{noLinks}
 use Rattle.session.specs.declared.Fed.{Fed}
 use Rattle.session.specs.declared.Finished.{Finished}
 use Rattle.session.specs.declared.Ran.{Ran}
@@ -36,7 +37,7 @@ module _ (z : Session) (input o : List ℕ) where
   fedBytes = output z taken
 
   abbrev pub fed : Fed
-  fed = record { state = fedSession .state; line = fedSession .line; read = readable z input (length o); written = length fedBytes }
+  fed = record { state = fedSession .state; lists = fedSession .lists; line = fedSession .line; read = readable z input (length o); written = length fedBytes }
 
 -- ---- the end of the input: all of it is written at `at`, or nothing where there is no room
 
@@ -51,20 +52,20 @@ module _ (z : Session) (o : List ℕ) (at : ℕ) where
   endBytes = cond canEnd (ending z) []
 
   abbrev pub finished : Finished
-  finished = record { state = endSession .state; written = length endBytes; complete = canEnd }
+  finished = record { state = endSession .state; lists = endSession .lists; written = length endBytes; complete = canEnd }
 
 -- ---- a whole list from the fresh state with this memory size
 
-abbrev pub begin : ℕ → List ℕ → List ℕ → List ℕ → Session
-begin size l g b = record { state = started size .state; links = zeroed l; grants = zeroed g; store = zeroed b; line = noLine }
+abbrev pub begin : ℕ → List ℕ → Session
+begin size b = record { state = started size .state; lists = noLinks; store = zeroed b; line = noLine }
 
 -- the output that a whole list has
 abbrev pub linesOf : Session → List ℕ → List ℕ
 linesOf z input = output z input ++ ending (after z input)
 
-module _ (size : ℕ) (l g b input o : List ℕ) where
+module _ (size : ℕ) (b input o : List ℕ) where
   abbrev first : Session
-  first = begin size l g b
+  first = begin size b
 
   abbrev allRead : Bool
   allRead = eqb (readable first input (length o)) (length input)
@@ -87,6 +88,7 @@ module _ (size : ℕ) (l g b input o : List ℕ) where
       record {
         status = started size .status;
         state = ranSession .state;
+        lists = ranSession .lists;
         read = readable first input (length o);
         written = length ranBytes;
         complete = complete;

@@ -1,7 +1,7 @@
 -- A list of lines fed byte by byte (01, "Lines"): what each byte does and what is printed for it. Feeding a list in pieces is feeding it
 -- whole, since what is carried from byte to byte is all there is. Assumes nothing.
 use mathlib.Core.Bool.{Bool, cond}
-use mathlib.Core.List.{List, [], _∷_, _++_}
+use mathlib.Core.List.{List, [], _∷_, _++_, map}
 use Prim.Native.Nat.{ℕ, _+_, _/_, _%_}
 use lib.Dec.{eqb, ltb}
 use lib.ListN.{length, take, set, replicate}
@@ -13,7 +13,10 @@ use Rattle.lines.specs.Lines.{lineFeed, frameOf, isFrame, lineOf}
 use Rattle.state.specs.declared.State.{State}
 use Rattle.step.specs.World.{worldOf}
 use Rattle.step.specs.Step.{After, answeredWith}
-use Rattle.monitor.specs.Monitor.{shortestBuffer, requested}
+use Rattle.monitor.specs.Monitor.{shortestBuffer}
+use Rattle.records.specs.Records.{principalNumber, tagNumber}
+use Rattle.entry.specs.declared.Lists.{Lists}
+use Rattle.entry.specs.Entry.{overRecords, listsOf}
 use Rattle.session.specs.declared.Line.{Line}
 use Rattle.session.specs.declared.Turned.{Turned}
 
@@ -32,37 +35,41 @@ restarted z = record { held = 0; bytes = z .bytes }
 abbrev pub noLine : Line
 noLine = record { held = 0; bytes = replicate 73 0 }
 
--- ---- a whole line z, with the answer buffer a: "refused 1: 01 is printed for it and nothing changes", or its frame is a request
+-- ---- a whole line z with the answer buffer a, from the state s, the lists x and the store b
 
-abbrev pub lineAnswered : State → List ℕ → List ℕ → List ℕ → List ℕ → List ℕ → After
-lineAnswered s l g b z a =
-    cond (isFrame z) (requested s l g b (frameOf z) a)
-    (answeredWith (worldOf (s .tables) l g b) (s .memory) (Refused Malformed) (refusalNumber Malformed ∷ []) a)
+module _ (s : State) (x : Lists) (b z a : List ℕ) where
+  -- "refused 1: 01 is printed for it and nothing changes", or its frame is a request
+  abbrev pub lineAnswered : After
+  lineAnswered =
+      cond (isFrame z) (overRecords s (x .links) (x .grants) b (frameOf z) a)
+      (answeredWith (worldOf (s .tables) (map principalNumber (x .links)) (map tagNumber (x .grants)) b) (s .memory) (Refused Malformed) (refusalNumber Malformed ∷ []) a)
+
+  -- the lists then
+  abbrev pub answeredLists : Lists
+  answeredLists = cond (isFrame z) (listsOf (overRecords s (x .links) (x .grants) b (frameOf z) a)) x
 
 -- ---- what is carried from byte to byte
 
 pub record Session : Type 0 where
   pub state : State
-  pub links : List ℕ
-  pub grants : List ℕ
+  pub lists : Lists
   pub store : List ℕ
   pub line : Line
 
--- the state s with the lists l and g, the store b and the line in the making z
-abbrev pub sessionOf : State → List ℕ → List ℕ → List ℕ → Line → Session
-sessionOf s l g b z = record { state = s; links = l; grants = g; store = b; line = z }
+-- the state s with the lists x, the store b and the line in the making z
+abbrev pub sessionOf : State → Lists → List ℕ → Line → Session
+sessionOf s x b z = record { state = s; lists = x; store = b; line = z }
 
 module _ (z : Session) where
   -- the line that has ended, and what it leaves
   abbrev pub turn : After
-  turn = lineAnswered (z .state) (z .links) (z .grants) (z .store) (lineBytes (z .line)) (replicate shortestBuffer 0)
+  turn = lineAnswered (z .state) (z .lists) (z .store) (lineBytes (z .line)) (replicate shortestBuffer 0)
 
   abbrev pub turned : Session
   turned =
       record {
         state = turn .replied .state;
-        links = turn .links;
-        grants = turn .grants;
+        lists = answeredLists (z .state) (z .lists) (z .store) (lineBytes (z .line)) (replicate shortestBuffer 0);
         store = turn .store;
         line = restarted (z .line);
       }
@@ -73,13 +80,13 @@ module _ (z : Session) where
 
   -- what its end leaves beside the lent buffers
   abbrev pub endOf : Turned
-  endOf = record { state = turned .state; written = length printed }
+  endOf = record { state = turned .state; lists = turned .lists; written = length printed }
 
   -- one byte of input: a line feed ends the line
   abbrev pub takes : ℕ → Session
   takes b =
       cond (eqb b lineFeed) turned
-      (record { state = z .state; links = z .links; grants = z .grants; store = z .store; line = pushed (z .line) b })
+      (record { state = z .state; lists = z .lists; store = z .store; line = pushed (z .line) b })
 
   abbrev pub says : ℕ → List ℕ
   says b = cond (eqb b lineFeed) printed []

@@ -3,7 +3,6 @@ ghost use mathlib.Core.Path.{_≡_};
 ghost use Rattle.state.specs.Start.{emptyMemory, started, zeroed, cleared};
 use memory::Memory;
 use numbers::REMEMBERED;
-use store::clear_numbers;
 use tables::Tables;
 use tables::fresh_tables;
 
@@ -50,18 +49,12 @@ fn fresh(size: usize) -> Started
     }
 }
 
-// The fresh state: "no links, tags or objects". The lent lists and the store become zero, whatever their
-// lengths; one of another length is refused 9 by the first request.
-pub fn start(size: usize, links: &mut [u32], grants: &mut [u32], store: &mut [u8]) -> Started
+// The fresh state: "no links, tags or objects". The lent store becomes zero, whatever its length; one of another
+// length is refused 9 by the first request.
+pub fn start(size: usize, store: &mut [u8]) -> Started
     ensures { λ r. ⌜ r ≡ started size ⌝ }
-    ensures { λ _. ⌜ now (links .exit) ≡ zeroed (now (links .entry)) ⌝ }
-    ensures { λ _. ⌜ now (grants .exit) ≡ zeroed (now (grants .entry)) ⌝ }
     ensures { λ _. ⌜ now (store .exit) ≡ zeroed (now (store .entry)) ⌝ }
 {
-    let n = links.len();
-    clear_numbers(links, 0, n);
-    let k = grants.len();
-    clear_numbers(grants, 0, k);
     let bytes = store.len();
     store::clear(store, 0, bytes);
     fresh(size)

@@ -9,10 +9,12 @@ use borrow.Author.Tests.{not-true, not-false}
 use lib.ListN.{replicate}
 use Rattle.numbers.proofs.Chain.{by-not}
 use Rattle.lines.specs.Lines.{isFrame}
-use Rattle.monitor.specs.Monitor.{requested}
+use Rattle.entry.specs.declared.Answered.{Answered}
+use Rattle.entry.specs.declared.Lists.{Lists}
+use Rattle.entry.specs.Entry.{overRecords, listsOf}
 use Rattle.state.specs.declared.State.{State}
 use Rattle.step.specs.Step.{After}
-use Rattle.session.proofs.Answering.{frame-read, frame-count, frame-fits, when-frame, when-none}
+use Rattle.session.proofs.Answering.{frame-read, frame-count, frame-fits, when-frame, lists-frame, when-none, lists-none}
 use Rattle.session.proofs.answer_line.Statement.{statement}
 use Rattle.session.proofs.answer_line.Tie as tie
 
@@ -21,11 +23,8 @@ module _ (c : tie.Start) where
   abbrev s : State
   s = c .args .s
 
-  abbrev l : List ℕ
-  l = c .args .links .now
-
-  abbrev g : List ℕ
-  g = c .args .grants .now
+  abbrev x : Lists
+  x = c .args .lists
 
   abbrev b : List ℕ
   b = c .args .store .now
@@ -37,8 +36,8 @@ module _ (c : tie.Start) where
   a = c .args .answer .now
 
 -- the line is a frame
-is-frame : (c : tie.Else1) → isFrame (z (c .before .before .before .before .before .before .before .before)) ≡ true
-is-frame c = not-false (isFrame (z (c .before .before .before .before .before .before .before .before))) (by-not (c .before .frame-of .ensures .0) (c .if1 .left))
+is-frame : (c : tie.Else1) → isFrame (z (c .before .before .before .before .before .before)) ≡ true
+is-frame c = not-false (isFrame (z (c .before .before .before .before .before .before))) (by-not (c .before .frame-of .ensures .0) (c .if1 .left))
 
 pub answer-line-spec : {M : Type 1} → statement M
 answer-line-spec =
@@ -48,20 +47,25 @@ answer-line-spec =
     (λ c. search needs)
     (λ c. search needs)
     (λ c.
-    let d = c .before .before .before .before .before .before .before .before in
-    let q = when-none (s d) (l d) (g d) (b d) (z d) (a d) (not-true (isFrame (z d)) (by-not (c .before .frame-of .ensures .0) (c .if1 .taken))) (omega (arith, d .pre)) in
-    (ap (λ (x : After). x .replied) q, (ap (λ (x : After). x .links) q, (ap (λ (x : After). x .grants) q, (ap (λ (x : After). x .store) q, ap (λ (x : After). x .answer) q)))))
-    (λ c. frame-fits (z (c .before .before .before .before .before .before .before .before .before .before .before)) (replicate 36 0) (c .before .before .before .before .frame-of .last .1 .0) (is-frame (c .before .before .before)) (c .before .before .before .before .frame-of .ensures .1))
-    (λ c. frame-count (z (c .before .before .before .before .before .before .before .before .before .before .before .before)) (replicate 36 0) (c .before .before .before .before .before .frame-of .last .1 .0) (is-frame (c .before .before .before .before)) (c .before .before .before .before .before .frame-of .ensures .1))
+    let d = c .before .before .before .before .before .before in
+    let e = not-true (isFrame (z d)) (by-not (c .before .frame-of .ensures .0) (c .if1 .taken)) in
+    let q = when-none (s d) (x d) (b d) (z d) (a d) e (omega (arith, d .pre)) in
+    (ap (λ (r : After). r .replied) q, (lists-none (s d) (x d) (b d) (z d) (a d) e, (ap (λ (r : After). r .store) q, ap (λ (r : After). r .answer) q))))
+    (λ c. frame-fits (z (c .before .before .before .before .before .before .before)) (replicate 36 0) (c .before .before .frame-of .last .1 .0) (is-frame (c .before)) (c .before .before .frame-of .ensures .1))
+    (λ c. frame-count (z (c .before .before .before .before .before .before .before .before)) (replicate 36 0) (c .before .before .before .frame-of .last .1 .0) (is-frame (c .before .before)) (c .before .before .before .frame-of .ensures .1))
     (λ c κs. search needs)
     (λ c. search needs)
     (λ c. search needs)
-    (λ c. search needs)
-    (λ c. search needs)
     (λ c.
-    let d = c .before .before .before .before .before .before .before .before .before .before .before .before .before .before .before .before .before .before .before .before .before .before in
-    let e = c .before .before .before .before .before .before .before .before .request .ensures in
-    let f = is-frame (c .before .before .before .before .before .before .before .before .before .before .before .before .before .before) in
-    let r = frame-read (z d) (replicate 36 0) (c .before .before .before .before .before .before .before .before .before .before .before .before .before .before .before .frame-of .last .1 .0) f (c .before .before .before .before .before .before .before .before .before .before .before .before .before .before .before .frame-of .ensures .1) in
-    let q = ap (λ (x : List ℕ). requested (s d) (l d) (g d) (b d) x (a d)) r ∙ when-frame (s d) (l d) (g d) (b d) (z d) (a d) f in
-    (e .0 ∙ ap (λ (x : After). x .replied) q, (e .1 .0 ∙ ap (λ (x : After). x .links) q, (e .1 .1 .0 ∙ ap (λ (x : After). x .grants) q, (e .1 .1 .1 .0 ∙ ap (λ (x : After). x .store) q, e .1 .1 .1 .1 ∙ ap (λ (x : After). x .answer) q))))))
+    let d = c .before .before .before .before .before .before .before .before .before .before .before .before .before .before in
+    let e = c .before .before .before .before .request-with .ensures in
+    let f = is-frame (c .before .before .before .before .before .before .before .before) in
+    let r = frame-read (z d) (replicate 36 0) (c .before .before .before .before .before .before .before .before .before .frame-of .last .1 .0) f (c .before .before .before .before .before .before .before .before .before .frame-of .ensures .1) in
+    let p = ap (λ (v : List ℕ). overRecords (s d) (x d .links) (x d .grants) (b d) v (a d)) r in
+    let q = p ∙ when-frame (s d) (x d) (b d) (z d) (a d) f in (
+      ap (λ (v : Answered). v .replied) (e .0) ∙ ap (λ (v : After). v .replied) q,
+      (
+        ap (λ (v : Answered). v .lists) (e .0) ∙ ap listsOf p ∙ lists-frame (s d) (x d) (b d) (z d) (a d) f,
+        (e .1 .0 ∙ ap (λ (v : After). v .store) q, e .1 .1 ∙ ap (λ (v : After). v .answer) q),
+      ),
+    )))

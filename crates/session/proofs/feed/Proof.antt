@@ -15,20 +15,18 @@ use Rattle.session.proofs.feed.Statement.{statement}
 use Rattle.session.proofs.feed.Tie as tie
 
 abbrev Inv-loop : tie.InvT-loop
-Inv-loop links₀ grants₀ store₀ input out₀ state₀ held₀ bytes₀ i₀ at₀ links grants store out state held bytes i at =
-    FedSoFar (sessionOf state₀ links₀ grants₀ store₀ (record { held = held₀; bytes = bytes₀ })) input out₀ i
-    (sessionOf state links grants store (record { held = held; bytes = bytes })) out at
-    × (length links ≡ length links₀)
-    × (length grants ≡ length grants₀)
+Inv-loop store₀ input out₀ state₀ lists₀ held₀ bytes₀ i₀ at₀ store out state lists held bytes i at =
+    FedSoFar (sessionOf state₀ lists₀ store₀ (record { held = held₀; bytes = bytes₀ })) input out₀ i
+    (sessionOf state lists store (record { held = held; bytes = bytes })) out at
     × (length store ≡ length store₀)
 
 abbrev μ-loop : tie.MeasureT-loop
-μ-loop links₀ grants₀ store₀ input out₀ state₀ held₀ bytes₀ i₀ at₀ links grants store out state held bytes i at = length input - i
+μ-loop store₀ input out₀ state₀ lists₀ held₀ bytes₀ i₀ at₀ store out state lists held bytes i at = length input - i
 
 -- the session that the function was given, its input and its output buffer
 module _ (c : tie.Start Inv-loop μ-loop) where
   abbrev first : Session
-  first = sessionOf (c .args .s) (c .args .links .now) (c .args .grants .now) (c .args .store .now) (c .args .line)
+  first = sessionOf (c .args .s) (c .args .l) (c .args .store .now) (c .args .line)
 
   abbrev input : List ℕ
   input = c .args .input .now
@@ -38,11 +36,11 @@ module _ (c : tie.Start Inv-loop μ-loop) where
 
 -- the session that the loop has come to
 abbrev here : tie.At-loop Inv-loop μ-loop → Session
-here c = sessionOf (c .loop .state) (c .loop .links) (c .loop .grants) (c .loop .store) (record { held = c .loop .held; bytes = c .loop .bytes })
+here c = sessionOf (c .loop .state) (c .loop .lists) (c .loop .store) (record { held = c .loop .held; bytes = c .loop .bytes })
 
 -- the same with another line in the making
 abbrev with-line : tie.At-loop Inv-loop μ-loop → Line → Session
-with-line c x = sessionOf (c .loop .state) (c .loop .links) (c .loop .grants) (c .loop .store) x
+with-line c x = sessionOf (c .loop .state) (c .loop .lists) (c .loop .store) x
 
 pub feed-spec : {M : Type 1} → statement M
 feed-spec =
@@ -50,63 +48,48 @@ feed-spec =
     (tie.spec
     Inv-loop
     μ-loop
-    (λ c. let d = c .before .before .before .before .before .before in (fed-none (first d) (input d) (out d), refl, refl, refl))
+    (λ c. let d = c .before .before .before .before in (fed-none (first d) (input d) (out d), refl))
     (λ c. omega (arith, c .before .loop .inv .0 .room, c .before .loop .inv .0 .kept))
     (λ c. omega arith)
     (λ c. omega arith)
-    (λ c κs. omega (arith, c .before .before .before .before .before .before .if1 .left, c .before .before .before .before .before .before .before .before .loop .inv .0 .room, c .before .before .before .before .before .before .before .before .loop .inv .0 .kept))
-    (λ c. omega (arith, c .before .before .before .before .before .before .before .before .before .before .end-line .ensures .1 .1 .1 .1 .1, c .before .before .before .before .before .before .before .before .before .before .before .before .before .before .before .before .before .if1 .left, c .before .before .before .before .before .before .before .before .before .before .before .before .before .before .before .before .before .before .before .loop .inv .0 .kept, c .before .before .before .before .before .before .before .before .before .before .before .before .before .before .before .before .before .before .before .before .before .before .before .before .before .before .good))
-    (λ c. omega (arith, c .before .before .before .before .before .before .before .before .before .before .before .before .before .before .before .before .before .before .loop-test .taken))
+    (λ c κs. omega (arith, c .before .before .before .before .if1 .left, c .before .before .before .before .before .before .loop .inv .0 .room, c .before .before .before .before .before .before .loop .inv .0 .kept))
+    (λ c. omega (arith, c .before .before .before .before .before .before .before .end-line .ensures .1 .1 .1, c .before .before .before .before .before .before .before .before .before .before .before .before .if1 .left, c .before .before .before .before .before .before .before .before .before .before .before .before .before .before .loop .inv .0 .kept, c .before .before .before .before .before .before .before .before .before .before .before .before .before .before .before .before .before .before .before .good))
+    (λ c. omega (arith, c .before .before .before .before .before .before .before .before .before .before .before .before .before .loop-test .taken))
     (λ c.
-    let k = c .before .before .before .before .before .before .before .before .before .before .before .before .before .before .before .before .before .before .before in
-    let d = c .before .before .before .before .before .before .before .before .before .before .before .before .before .before .before .before .before .before .before .before .before .before .before .before .before .before in
-    let t = c .before .before .before .before .before .before .before .before .before .before .end-line in
+    let k = c .before .before .before .before .before .before .before .before .before .before .before .before .before .before in
+    let d = c .before .before .before .before .before .before .before .before .before .before .before .before .before .before .before .before .before .before .before in
+    let t = c .before .before .before .before .before .before .before .end-line in
     let e = t .ensures in
-    let turn = same-session (restarted (here k .line)) (ap (λ (x : Turned). x .state) (e .0)) (e .1 .0) (e .1 .1 .0) (e .1 .1 .1 .0) in (
-      fed-line (first d) (input d) (out d) (k .loop .inv .0) (c .before .before .before .before .before .before .before .before .before .before .before .before .before .before .before .before .before .before .loop-test .taken) (c .before .before .before .before .before .before .before .before .before .before .before .before .before .before .before .before .before .if1 .left) (c .before .before .before .before .before .before .before .before .before .before .before .before .before .before .before .if2 .taken) turn (e .1 .1 .1 .1 .0) (ap (λ (x : Turned). x .written) (e .0)) (t .kept .1 .1 .1 .1 .1 .0 ∙ k .loop .inv .0 .kept),
-      t .kept .1 .0 ∙ k .loop .inv .1,
-      t .kept .1 .1 .0 ∙ k .loop .inv .2,
-      t .kept .1 .1 .1 .0 ∙ k .loop .inv .3,
+    let turn = same-session (restarted (here k .line)) (ap (λ (x : Turned). x .state) (e .0)) (ap (λ (x : Turned). x .lists) (e .0)) (e .1 .0) in (
+      fed-line (first d) (input d) (out d) (k .loop .inv .0) (c .before .before .before .before .before .before .before .before .before .before .before .before .before .loop-test .taken) (c .before .before .before .before .before .before .before .before .before .before .before .before .if1 .left) (c .before .before .before .before .before .before .before .before .before .before .if2 .taken) turn (e .1 .1 .0) (ap (λ (x : Turned). x .written) (e .0)) (t .kept .1 .1 .1 .1 .0 ∙ k .loop .inv .0 .kept),
+      t .kept .1 .1 .0 ∙ k .loop .inv .1,
     ))
     (λ c. c .if3 .taken)
     (λ c. omega (arith, c .if3 .taken))
     (λ c. omega (arith, c .before .before .before .before .loop-test .taken))
     (λ c.
     let k = c .before .before .before .before .before in
-    let d = c .before .before .before .before .before .before .before .before .before .before .before .before in
-    let more = ap (with-line k) (hit _ (lt-ltb (k .loop .held) 73 (c .if3 .taken)) refl) in (
-      fed-byte (first d) (input d) (out d) (k .loop .inv .0) (c .before .before .before .before .loop-test .taken) (c .before .before .before .if1 .left) (c .before .if2 .left) more,
-      k .loop .inv .1,
-      k .loop .inv .2,
-      k .loop .inv .3,
-    ))
+    let d = c .before .before .before .before .before .before .before .before .before .before in
+    let more = ap (with-line k) (hit _ (lt-ltb (k .loop .held) 73 (c .if3 .taken)) refl) in
+    (fed-byte (first d) (input d) (out d) (k .loop .inv .0) (c .before .before .before .before .loop-test .taken) (c .before .before .before .if1 .left) (c .before .if2 .left) more, k .loop .inv .1))
     (λ c. omega (arith, c .before .before .before .before .loop-test .taken))
     (λ c.
     let k = c .before .before .before .before .before in
-    let d = c .before .before .before .before .before .before .before .before .before .before .before .before in
-    let same = ap (with-line k) (skip _ (le-ltb (k .loop .held) 73 (c .if3 .left)) refl) in (
-      fed-byte (first d) (input d) (out d) (k .loop .inv .0) (c .before .before .before .before .loop-test .taken) (c .before .before .before .if1 .left) (c .before .if2 .left) same,
-      k .loop .inv .1,
-      k .loop .inv .2,
-      k .loop .inv .3,
-    ))
+    let d = c .before .before .before .before .before .before .before .before .before .before in
+    let same = ap (with-line k) (skip _ (le-ltb (k .loop .held) 73 (c .if3 .left)) refl) in
+    (fed-byte (first d) (input d) (out d) (k .loop .inv .0) (c .before .before .before .before .loop-test .taken) (c .before .before .before .if1 .left) (c .before .if2 .left) same, k .loop .inv .1))
     (λ c. c .before .loop .inv .1)
-    (λ c. c .before .loop .inv .2)
-    (λ c. c .before .loop .inv .3)
     (λ c. c .before .loop .inv .0 .kept)
     (λ c.
     let k = c .before in
-    let d = c .before .before .before .before .before .before .before .before in
-    let f = k .loop .inv .0 in
+    let d = c .before .before .before .before .before .before in
     let done = readable-end (here k) (input d) (k .loop .i) (length (out d) - k .loop .at) (c .loop-test .left) in
-    fed-all (first d) (input d) (out d) f done)
+    fed-all (first d) (input d) (out d) (k .loop .inv .0) done)
     (λ c. c .before .before .loop .inv .1)
-    (λ c. c .before .before .loop .inv .2)
-    (λ c. c .before .before .loop .inv .3)
     (λ c. c .before .before .loop .inv .0 .kept)
     (λ c.
     let k = c .before .before in
-    let d = c .before .before .before .before .before .before .before .before .before in
+    let d = c .before .before .before .before .before .before .before in
     let f = k .loop .inv .0 in
     let done = readable-full (here k) (drop (k .loop .i) (input d)) (length (out d) - k .loop .at) (omega (arith, c .if1 .taken, f .kept)) in
     fed-all (first d) (input d) (out d) f done))

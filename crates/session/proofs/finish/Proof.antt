@@ -17,12 +17,12 @@ use Rattle.session.proofs.finish.Tie as tie
 
 -- the session that the function was given
 abbrev given : tie.Start → Session
-given c = sessionOf (c .args .s) (c .args .links .now) (c .args .grants .now) (c .args .store .now) (c .args .line)
+given c = sessionOf (c .args .s) (c .args .l) (c .args .store .now) (c .args .line)
 
 -- there is room
 module _ (c : tie.Else1) where
   abbrev d : tie.Start
-  d = c .before .before .before .before .before .before
+  d = c .before .before .before .before
 
   has-room : canEnd (given d) (d .args .out .now) (d .args .at) ≡ true
   has-room = not-false (canEnd (given d) (d .args .out .now) (d .args .at)) (by-not (c .before .can-end .ensures) (c .if1 .left))
@@ -36,24 +36,22 @@ finish-spec =
     (tie.spec
     (λ c κs. search needs)
     (λ c.
-    let d = c .before .before .before .before .before .before in
+    let d = c .before .before .before .before in
     without-room (given d) (d .args .out .now) (d .args .at) (not-true (canEnd (given d) (d .args .out .now) (d .args .at)) (by-not (c .before .can-end .ensures) (c .if1 .taken))))
     (λ c κs. omega (arith, room (c .before .before .before .before)))
     (λ c. search needs)
     (λ c.
-    let d = c .before .before .before .before .before .before .before .before .before .before .before .before .before in
+    let d = c .before .before .before .before .before .before .before .before .before .before .before in
     without-last (given d) (d .args .out .now) (d .args .at) (has-room (c .before .before .before .before .before .before .before)) (c .before .before .before .before .before .if2 .taken) (c .before .before .put-last .ensures))
-    (λ c κs. omega (arith, room (c .before .before .before .before .before .before)))
-    (λ c. omega (arith, room (c .before .before .before .before .before .before .before .before .before .before .before .before .before .before .before .before .before .before), c .before .before .before .before .before .before .before .before .before .before .before .end-line .ensures .1 .1 .1 .1 .1, c .before .before .before .before .before .before .before .before .before .before .before .before .before .before .before .before .before .before .before .before .before .before .before .before .good))
-    (λ c κs. omega (arith, room (c .before .before .before .before .before .before .before .before .before .before .before .before .before .before .before .before .before .before), c .before .before .before .before .before .before .before .before .before .before .before .end-line .ensures .1 .1 .1 .1 .1, c .before .before .before .before .before .before .before .before .before .before .before .end-line .kept .1 .1 .1 .1 .1 .0))
-    (λ c. search needs)
-    (λ c. search needs)
+    (λ c κs. omega (arith, room (c .before .before .before .before)))
+    (λ c. omega (arith, room (c .before .before .before .before .before .before .before .before .before .before .before .before .before), c .before .before .before .before .before .before .before .before .end-line .ensures .1 .1 .1, c .before .before .before .before .before .before .before .before .before .before .before .before .before .before .before .before .before .good))
+    (λ c κs. omega (arith, room (c .before .before .before .before .before .before .before .before .before .before .before .before .before), c .before .before .before .before .before .before .before .before .end-line .ensures .1 .1 .1, c .before .before .before .before .before .before .before .before .end-line .kept .1 .1 .1 .1 .0))
     (λ c. search needs)
     (λ c. search needs)
     (λ c. search needs)
     (λ c.
-    let d = c .before .before .before .before .before .before .before .before .before .before .before .before .before .before .before .before .before .before .before .before .before .before .before .before .before .before .before in
-    let e = c .before .before .before .before .before .before .before .before .before .before .before .before .before .before .end-line .ensures in
-    let turn = same-session (restarted (d .args .line)) (ap (λ (x : Turned). x .state) (e .0)) (e .1 .0) (e .1 .1 .0) (e .1 .1 .1 .0) in
+    let d = c .before .before .before .before .before .before .before .before .before .before .before .before .before .before .before .before .before .before .before .before in
+    let e = c .before .before .before .before .before .before .before .before .before .before .before .end-line .ensures in
+    let turn = same-session (restarted (d .args .line)) (ap (λ (x : Turned). x .state) (e .0)) (ap (λ (x : Turned). x .lists) (e .0)) (e .1 .0) in
     let wrote = ap (λ (x : Turned). x .written) (e .0) in
-    with-last (given d) (d .args .out .now) (d .args .at) (has-room (c .before .before .before .before .before .before .before .before .before .before .before .before .before .before .before .before .before .before .before .before .before)) (c .before .before .before .before .before .before .before .before .before .before .before .before .before .before .before .before .before .before .before .if2 .left) turn wrote (e .1 .1 .1 .1 .0) (omega (arith, room (c .before .before .before .before .before .before .before .before .before .before .before .before .before .before .before .before .before .before .before .before .before), wrote, e .1 .1 .1 .1 .1)) (c .before .before .put-last2 .ensures)))
+    with-last (given d) (d .args .out .now) (d .args .at) (has-room (c .before .before .before .before .before .before .before .before .before .before .before .before .before .before .before .before)) (c .before .before .before .before .before .before .before .before .before .before .before .before .before .before .if2 .left) turn wrote (e .1 .1 .0) (omega (arith, room (c .before .before .before .before .before .before .before .before .before .before .before .before .before .before .before .before), wrote, e .1 .1 .1)) (c .before .before .put-last2 .ensures)))

@@ -1,4 +1,4 @@
--- `state::start` meets its contract: each list is cleared whole. Assumes nothing.
+-- `state::start` meets its contract: the store is cleared whole. Assumes nothing.
 use mathlib.Core.Path.{_∙_}
 use borrow.Author.Needs.{needs}
 use Rattle.store.proofs.StoreLaws.{cleared-all}
@@ -11,19 +11,5 @@ start-spec =
     (tie.spec
     (λ c κs. search needs)
     (λ c κs. search needs)
-    (λ c κs. search needs)
-    (λ c κs. search needs)
     (λ c. search needs)
-    (λ c. search needs)
-    (λ c. search needs)
-    (λ c.
-    let a = c .before .before .before .before .before .before .before .before .before .before .before .before .before .before .before .before .args in (
-      c .fresh .ensures,
-      (
-        c .before .before .before .before .before .before .before .before .before .before .before .clear-numbers .ensures ∙ cleared-all (a .links .now),
-        (
-          c .before .before .before .before .before .before .before .clear-numbers2 .ensures ∙ cleared-all (a .grants .now),
-          c .before .before .before .clear .ensures ∙ cleared-all (a .store .now),
-        ),
-      ),
-    )))
+    (λ c. (c .fresh .ensures, c .before .before .before .clear .ensures ∙ cleared-all (c .before .before .before .before .before .before .args .store .now))))

@@ -12,15 +12,14 @@ use Rattle.suvdorkhun.proofs.serve.Statement.{statement}
 use Rattle.suvdorkhun.proofs.serve.Tie as tie
 
 abbrev Inv-loop : tie.InvT-loop
-Inv-loop links₀ grants₀ store₀ state₀ line₀ more₀ well₀ turns₀ links grants store state line more well turns =
-    (length links ≡ length links₀) × (length grants ≡ length grants₀) × (length store ≡ length store₀)
+Inv-loop store₀ state₀ lists₀ line₀ more₀ well₀ turns₀ store state lists line more well turns = length store ≡ length store₀
 
 abbrev μ-loop : tie.MeasureT-loop
-μ-loop links₀ grants₀ store₀ state₀ line₀ more₀ well₀ turns₀ links grants store state line more well turns = turns
+μ-loop store₀ state₀ lists₀ line₀ more₀ well₀ turns₀ store state lists line more well turns = turns
 
 -- a turn is left
-turn-left : (c : tie.After-line Inv-loop μ-loop) → 0 < c .before .before .before .before .before .before .before .before .before .before .before .before .before .loop .turns
-turn-left c = ltb-true 0 (c .before .before .before .before .before .before .before .before .before .before .before .before .before .loop .turns) (and-right (c .before .before .before .before .before .before .before .before .before .before .before .before .before .loop .more && c .before .before .before .before .before .before .before .before .before .before .before .before .before .loop .well) (ltb 0 (c .before .before .before .before .before .before .before .before .before .before .before .before .before .loop .turns)) (c .before .before .before .before .before .before .before .before .before .before .before .before .loop-test .taken))
+turn-left : (c : tie.After-line Inv-loop μ-loop) → 0 < c .before .before .before .before .before .before .before .before .loop .turns
+turn-left c = ltb-true 0 (c .before .before .before .before .before .before .before .before .loop .turns) (and-right (c .before .before .before .before .before .before .before .before .loop .more && c .before .before .before .before .before .before .before .before .loop .well) (ltb 0 (c .before .before .before .before .before .before .before .before .loop .turns)) (c .before .before .before .before .before .before .before .loop-test .taken))
 
 pub serve-spec : {M : Type 1} → statement M
 serve-spec =
@@ -28,24 +27,17 @@ serve-spec =
     (tie.spec
     Inv-loop
     μ-loop
-    (λ c. (refl, refl, refl))
+    (λ c. refl)
     (λ c κs. search needs)
     (λ c. turn-left c)
     (λ c. omega (arith, turn-left c))
-    (λ c.
-    let inv = c .before .before .before .before .before .before .before .before .before .before .before .before .before .loop .inv in
-    let same = c .before .before .before .before .before .before .before .before .serve-some .kept in
-    (same .1 .0 ∙ inv .0, same .1 .1 .0 ∙ inv .1, same .1 .1 .1 .0 ∙ inv .2))
-    (λ c. c .before .before .loop .inv .0)
-    (λ c. c .before .before .loop .inv .1)
-    (λ c. c .before .before .loop .inv .2)
+    (λ c. c .before .before .before .before .before .serve-some .kept .1 .1 .0 ∙ c .before .before .before .before .before .before .before .before .loop .inv)
+    (λ c. c .before .before .loop .inv)
     (λ c. search needs)
     (λ c κs. search needs)
     (λ c. search needs)
     (λ c κs. search needs)
     (λ c. search needs)
     (λ c κs. search needs)
-    (λ c. c .before .before .before .before .before .before .before .before .before .finish .kept .1 .0 ∙ c .before .before .before .before .before .before .before .before .before .before .before .before .before .before .before .before .before .loop .inv .0)
-    (λ c. c .before .before .before .before .before .before .before .before .before .finish .kept .1 .1 .0 ∙ c .before .before .before .before .before .before .before .before .before .before .before .before .before .before .before .before .before .loop .inv .1)
-    (λ c. c .before .before .before .before .before .before .before .before .before .finish .kept .1 .1 .1 .0 ∙ c .before .before .before .before .before .before .before .before .before .before .before .before .before .before .before .before .before .loop .inv .2)
+    (λ c. c .before .before .before .before .before .finish .kept .1 .1 .0 ∙ c .before .before .before .before .before .before .before .before .before .before .before .loop .inv)
     (λ c. search needs))

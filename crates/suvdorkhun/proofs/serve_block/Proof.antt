@@ -12,21 +12,21 @@ use Rattle.suvdorkhun.proofs.serve_block.Statement.{statement}
 use Rattle.suvdorkhun.proofs.serve_block.Tie as tie
 
 abbrev Inv-loop : tie.InvT-loop
-Inv-loop links₀ grants₀ store₀ block state₀ pending₀ well₀ from₀ links grants store state pending well from =
-    (from ≤ length block) × (length links ≡ length links₀) × (length grants ≡ length grants₀) × (length store ≡ length store₀)
+Inv-loop store₀ block state₀ lists₀ pending₀ well₀ from₀ store state lists pending well from =
+    (from ≤ length block) × (length store ≡ length store₀)
 
 abbrev μ-loop : tie.MeasureT-loop
-μ-loop links₀ grants₀ store₀ block state₀ pending₀ well₀ from₀ links grants store state pending well from = length block - from
+μ-loop store₀ block state₀ lists₀ pending₀ well₀ from₀ store state lists pending well from = length block - from
 
 -- what a turn read is something of what was left
-turn-reads : (c : tie.After-struct-known Inv-loop μ-loop) → (c .before .before .before .before .before .before .before .before .before .before .before .before .before .before .before .loop .from + c .before .before .before .before .before .before .before .before .before .serve-piece .result .read ≤ length (c .before .before .before .before .before .before .before .before .before .before .before .before .before .before .before .before .before .before .before .before .args .block .now)) × (0 < c .before .before .before .before .before .before .before .before .before .serve-piece .result .read)
+turn-reads : (c : tie.After-struct-known Inv-loop μ-loop) → (c .before .before .before .before .before .before .before .before .before .before .loop .from + c .before .before .before .before .before .before .serve-piece .result .read ≤ length (c .before .before .before .before .before .before .before .before .before .before .before .before .before .args .block .now)) × (0 < c .before .before .before .before .before .before .serve-piece .result .read)
 turn-reads c =
-    let f = c .before .before .before .before .before .before .before .before .before .before .before .before .before .before .before .loop .from in
-    let l = c .before .before .before .before .before .before .before .before .before .before .before .before .before .before .before .before .before .before .before .before .args .block .now in
+    let f = c .before .before .before .before .before .before .before .before .before .before .loop .from in
+    let l = c .before .before .before .before .before .before .before .before .before .before .before .before .before .args .block .now in
     let left : length (take (length l - f) (drop f l)) ≡ length l - f = simp (length-take, length-drop) (omega arith) in
-    let some : f < length l = ltb-true f (length l) (and-right (c .before .before .before .before .before .before .before .before .before .before .before .before .before .before .before .loop .well) (ltb f (length l)) (c .before .before .before .before .before .before .before .before .before .before .before .before .before .before .loop-test .taken)) in
-    let e = c .before .before .before .before .before .before .before .before .before .serve-piece .ensures in
-    (omega (arith, e .0, left, c .before .before .before .before .before .before .before .before .before .before .before .before .before .before .before .loop .inv .0), ⊎-elim (λ z. absurd (omega (arith, z, left, some))) (λ h. h) (e .1))
+    let some : f < length l = ltb-true f (length l) (and-right (c .before .before .before .before .before .before .before .before .before .before .loop .well) (ltb f (length l)) (c .before .before .before .before .before .before .before .before .before .loop-test .taken)) in
+    let e = c .before .before .before .before .before .before .serve-piece .ensures in
+    (omega (arith, e .0, left, c .before .before .before .before .before .before .before .before .before .before .loop .inv .0), ⊎-elim (λ z. absurd (omega (arith, z, left, some))) (λ h. h) (e .1))
 
 pub serve-block-spec : {M : Type 1} → statement M
 serve-block-spec =
@@ -34,18 +34,13 @@ serve-block-spec =
     (tie.spec
     Inv-loop
     μ-loop
-    (λ c. (omega arith, refl, refl, refl))
-    (λ c. c .before .before .before .before .loop .inv .0)
+    (λ c. (omega arith, refl))
+    (λ c. c .before .before .loop .inv .0)
     (λ c. search needs)
     (λ c. search needs)
     (λ c κs. search needs)
-    (λ c. omega (arith, turn-reads c .0, c .before .before .before .before .before .before .before .before .before .before .before .before .before .before .before .before .before .before .before .before .good))
+    (λ c. omega (arith, turn-reads c .0, c .before .before .before .before .before .before .before .before .before .before .before .before .before .good))
     (λ c. omega (arith, turn-reads c .0, turn-reads c .1))
-    (λ c.
-    let inv = c .before .before .before .before .before .before .before .before .before .before .before .before .before .before .before .loop .inv in
-    let same = c .before .before .before .before .before .before .before .before .before .serve-piece .kept in
-    (turn-reads c .0, same .1 .0 ∙ inv .1, same .1 .1 .0 ∙ inv .2, same .1 .1 .1 .0 ∙ inv .3))
+    (λ c. (turn-reads c .0, c .before .before .before .before .before .before .serve-piece .kept .1 .1 .0 ∙ c .before .before .before .before .before .before .before .before .before .before .loop .inv .1))
     (λ c. c .before .loop .inv .1)
-    (λ c. c .before .loop .inv .2)
-    (λ c. c .before .loop .inv .3)
     (λ c. search needs))

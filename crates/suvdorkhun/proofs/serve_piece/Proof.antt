@@ -20,11 +20,9 @@ serve-piece-spec =
     (λ c. search needs)
     (λ c κs. search needs)
     (λ c. search needs)
-    (λ c. search needs)
-    (λ c. search needs)
     (λ c.
-    let l = c .before .before .before .before .before .before .before .before .before .before .before .before .before .before .before .before .before .before .before .before .before .args .piece .now in
-    let e = ap (λ (x : Fed). x .read) (c .before .before .before .before .before .before .before .before .before .before .before .feed .ensures .0) in (
+    let l = c .before .before .before .before .before .before .before .before .before .before .before .before .before .before .args .piece .now in
+    let e = ap (λ (x : Fed). x .read) (c .before .before .before .before .before .before .before .before .feed .ensures .0) in (
       subst (λ (n : ℕ). n ≤ length l) (sym e) (readable-within _ l _),
-      ⊎-elim inl (λ h. inr (subst (λ (n : ℕ). 0 < n) (sym e) h)) (readable-some _ l _ (omega (arith, c .before .before .before .before .before .before .before .before .before .before .before .before .before .before .before .before .large-buffer .ensures))),
+      ⊎-elim inl (λ h. inr (subst (λ (n : ℕ). 0 < n) (sym e) h)) (readable-some _ l _ (omega (arith, c .before .before .before .before .before .before .before .before .before .before .before .large-buffer .ensures))),
     )))
