@@ -1,24 +1,14 @@
-// What a decision's changes do to the lists, the store and the rows (01, "Requests", the column "done"). Nothing
-// is tested here: `decide` has seen to it that there is room.
+// What a decision's changes do to the store, the rows and the counts of links (01, "Requests", the column "done").
+// Nothing is tested here: `decide` has seen to it that there is room. The lists of links are changed by whoever
+// holds them (crate `records`).
 pub mod rows;
 
 ghost use mathlib.Core.Path.{_≡_};
-ghost use Rattle.apply.specs.Apply.{applyList, countAfter, ListFits, applyStore, StoreFits};
+ghost use Rattle.apply.specs.Apply.{countAfter, ListFits, applyStore, StoreFits};
 use outcomes::ListChange;
 use outcomes::StoreChange;
 
-// A lent list of links, of which n places are in use.
-pub fn apply_list(c: ListChange, n: usize, links: &mut [u32])
-    ensures { λ _. ⌜ now (links .exit) ≡ applyList c n (now (links .entry)) ⌝ }
-{
-    match c {
-        ListChange::Keep => (),
-        ListChange::Append(x) => links::append(links, n, x),
-        ListChange::Remove(i) => links::remove(links, n, i),
-    }
-}
-
-// How many are in use then.
+// How many links of a list are in use then, of n.
 pub fn count_after(c: ListChange, n: usize) -> usize
     requires { ⌜ ListFits c n ⌝ }
     ensures { λ r. ⌜ r ≡ countAfter c n ⌝ }

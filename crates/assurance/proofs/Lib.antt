@@ -20,3 +20,4 @@ pub mod Knows
 pub mod Learnt
 pub mod LeavesKept
 pub mod AuthorityPath
+pub mod RecordsAlike

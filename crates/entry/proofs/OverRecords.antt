@@ -1,20 +1,18 @@
 -- What the entry over records leaves, from what the request over their numbers tells: the same answer, and in the lists the records of the
 -- definition's numbers. Assumes nothing.
 use mathlib.Core.Path.{_≡_, refl, sym, ap, ap₂, _∙_}
-use mathlib.Core.Bool.{Bool, true, false, not, cond, _&&_}
+use mathlib.Core.Bool.{Bool, true, false, not, cond}
 use mathlib.Core.List.{List, [], _∷_, _++_, map, append-nil}
 use mathlib.Core.Logic.{⊎-elim}
-use Prim.Native.Nat.{ℕ, zero, suc, _+_, _*_, _/_, _%_, _≤_, _<_, min}
+use Prim.Native.Nat.{ℕ, zero, suc, _+_, _≤_, min}
 use native.Mathlib.Omega.{arith}
-use borrow.Author.Tests.{eq-eqb, ne-eqb, eqb-true, eqb-false}
+use borrow.Author.Tests.{eq-eqb, eqb-true, eqb-false}
 use lib.Dec.{eqb, ltb}
-use lib.ListN.{length, getD, take, drop, set, replicate, length-map, length-replicate, drop-of-length-le}
+use lib.ListN.{length, take, drop, set, replicate, length-map, length-replicate, drop-of-length-le}
 use lib.Seq.{take-all}
 use Rattle.numbers.proofs.Bools.{either, and-left}
 use Rattle.numbers.proofs.Chain.{hit, skip}
-use Rattle.links.specs.Links.{appended, gapClosed}
-use Rattle.memory.specs.declared.Memory.{Memory}
-use Rattle.tables.specs.declared.Tables.{Tables}
+use Rattle.links.specs.Links.{gapClosed}
 use Rattle.outcomes.specs.declared.ListChange.{ListChange}
 use Rattle.outcomes.specs.declared.ListChange.the-variants.{Keep, Append, Remove}
 use Rattle.apply.specs.Apply.{applyList}
@@ -29,31 +27,6 @@ use Rattle.records.specs.declared.principals.PrincipalLink.{PrincipalLink}
 use Rattle.records.specs.declared.tags.TagLink.{TagLink}
 use Rattle.records.specs.Records.{principalNumber, principalLink, tagNumber, tagLink, gathered, changed}
 use Rattle.entry.specs.Entry.{overRecords, wholePlaces, overNumbers}
-
--- ---- a record whose fields are bytes is that of its number
-
-pub same-principals : (ys : List PrincipalLink)
-    → ((i : ℕ) → i < length ys → (getD ys i (principalLink 0) .from .0 < 256) × (getD ys i (principalLink 0) .to .0 < 256))
-    → map principalLink (map principalNumber ys) ≡ ys
-same-principals [] bytes = refl
-same-principals (y ∷ ys) bytes =
-    let b = bytes 0 (omega arith) in
-    let p : ((0 + y .from .0) * 256 + y .to .0) / 256 % 256 ≡ y .from .0 = omega (arith, b .0, b .1) in
-    let q : ((0 + y .from .0) * 256 + y .to .0) % 256 ≡ y .to .0 = omega (arith, b .0, b .1) in
-    ap₂ (λ (u v : ℕ). record { from = record { 0 = u }; to = record { 0 = v } } ∷ map principalLink (map principalNumber ys)) p q
-    ∙ ap (λ (xs : List PrincipalLink). y ∷ xs) (same-principals ys (λ i low. bytes (suc i) (omega (arith, low))))
-
-pub same-tags : (zs : List TagLink)
-    → ((i : ℕ) → i < length zs → (getD zs i (tagLink 0) .tag .0 < 256) × (getD zs i (tagLink 0) .from .0 < 256) × (getD zs i (tagLink 0) .to .0 < 256))
-    → map tagLink (map tagNumber zs) ≡ zs
-same-tags [] bytes = refl
-same-tags (z ∷ zs) bytes =
-    let b = bytes 0 (omega arith) in
-    let t : ((z .tag .0 * 256 + z .from .0) * 256 + z .to .0) / 65536 % 256 ≡ z .tag .0 = omega (arith, b .0, b .1, b .2) in
-    let p : ((z .tag .0 * 256 + z .from .0) * 256 + z .to .0) / 256 % 256 ≡ z .from .0 = omega (arith, b .0, b .1, b .2) in
-    let q : ((z .tag .0 * 256 + z .from .0) * 256 + z .to .0) % 256 ≡ z .to .0 = omega (arith, b .0, b .1, b .2) in
-    ap (λ (x : TagLink). x ∷ map tagLink (map tagNumber zs)) (λ j. record { tag = record { 0 = t j }; from = record { 0 = p j }; to = record { 0 = q j } })
-    ∙ ap (λ (xs : List TagLink). z ∷ xs) (same-tags zs (λ i low. bytes (suc i) (omega (arith, low))))
 
 -- ---- a change of the numbers is the same change of the records
 

@@ -5,6 +5,5 @@ pub mod WalkLaws
 pub mod Gathering
 pub mod LedTo
 pub mod AuthorityLaws
-pub mod Closing
 pub mod ListLaws
 pub mod Cases

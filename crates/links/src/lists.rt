@@ -3,7 +3,7 @@
 ghost use mathlib.Core.Path.{_≡_};
 ghost use Prim.Native.Nat.{_*_, min};
 ghost use lib.ListN.{take};
-ghost use Rattle.links.specs.Links.{baseOf, linkNumber, findIn, isFound, stands, appended, removed};
+ghost use Rattle.links.specs.Links.{baseOf, linkNumber, findIn, isFound, stands};
 use numbers::Principal;
 use numbers::Tag;
 
@@ -80,30 +80,4 @@ pub fn stands(links: &[u32], n: usize, x: u32) -> bool
     ensures { λ r. ⌜ r ≡ stands (now (links .entry)) n x ⌝ }
 {
     is_found(find(links, n, x))
-}
-
-// A link more, at place n. A full list stays as it is.
-pub fn append(links: &mut [u32], n: usize, x: u32)
-    ensures { λ _. ⌜ now (links .exit) ≡ appended (now (links .entry)) n x ⌝ }
-{
-    if n < links.len() {
-        links[n] = x;
-    }
-}
-
-// The link at place i of the n in use is taken out, those after it move down, and the last place becomes zero.
-pub fn remove(links: &mut [u32], n: usize, i: usize)
-    ensures { λ _. ⌜ now (links .exit) ≡ removed (now (links .entry)) n i ⌝ }
-{
-    let end = used(links.len(), n);
-    if end <= i {
-        return;
-    }
-    let last = end - 1;
-    let mut k = i;
-    while k < last {
-        links[k] = links[k + 1];
-        k += 1;
-    }
-    links[last] = 0;
 }

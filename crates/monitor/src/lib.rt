@@ -1,4 +1,5 @@
-// The single request: any bytes, any tables, lists and buffers of any length. 10, then 9, then the step.
+// The single request, all but the change of its lists: any bytes, any tables, lists and buffers of any length. 10,
+// then 9, then the step. The entry that lends the lists stands above it (crate `entry`).
 //
 // The parameters, in this order: the state, the two lists of links, the lent store of messages, the frame, the
 // lent answer buffer.
@@ -7,7 +8,6 @@ ghost use Rattle.monitor.specs.Monitor.{requested, quiet, replyOf};
 use answers::Answer;
 use answers::Refusal;
 use answers::write;
-use apply::apply_list;
 use outcomes::ListChange;
 use rules::break_no_rule;
 use state::State;
@@ -34,7 +34,7 @@ fn quiet(status: u8, written: usize, state: State) -> Stepped
     }
 }
 
-// All of a request but the lists: what is to change in them is told.
+// The lists stay as they are: what is to change in them is told.
 pub fn reply<'a>(
     s: State,
     links: &'a [u32],
@@ -57,28 +57,4 @@ pub fn reply<'a>(
         return quiet(9, 1, s);
     }
     step(s, links, grants, store, frame, answer)
-}
-
-// The same where the lists are lent, as numbers: they are changed too.
-pub fn request(
-    s: State,
-    links: &mut [u32],
-    grants: &mut [u32],
-    store: &mut [u8],
-    frame: &[u8],
-    answer: &mut [u8],
-) -> Replied
-    ensures { λ r. ⌜ r ≡ requested s (now (links .entry)) (now (grants .entry)) (now (store .entry)) (now (frame .entry)) (now (answer .entry)) .replied ⌝ }
-    ensures { λ _. ⌜ now (links .exit) ≡ requested s (now (links .entry)) (now (grants .entry)) (now (store .entry)) (now (frame .entry)) (now (answer .entry)) .links ⌝ }
-    ensures { λ _. ⌜ now (grants .exit) ≡ requested s (now (links .entry)) (now (grants .entry)) (now (store .entry)) (now (frame .entry)) (now (answer .entry)) .grants ⌝ }
-    ensures { λ _. ⌜ now (store .exit) ≡ requested s (now (links .entry)) (now (grants .entry)) (now (store .entry)) (now (frame .entry)) (now (answer .entry)) .store ⌝ }
-    ensures { λ _. ⌜ now (answer .exit) ≡ requested s (now (links .entry)) (now (grants .entry)) (now (store .entry)) (now (frame .entry)) (now (answer .entry)) .answer ⌝ }
-{
-    let r = reply(s, links, grants, store, frame, answer);
-    let t = s.tables;
-    let of_links = r.links;
-    let of_grants = r.grants;
-    apply_list(of_links, t.links, links);
-    apply_list(of_grants, t.grants, grants);
-    r.replied
 }

@@ -1,5 +1,6 @@
 pub mod Appending
 pub mod Changing
+pub mod Closing
 pub mod Element
 pub mod FindLaws
 pub mod Finding
@@ -8,6 +9,7 @@ pub mod Gathering
 pub mod LocalArray
 pub mod Numbering
 pub mod PuttingBack
+pub mod Readings
 pub mod Removing
 pub mod Shelf
 pub mod Steps

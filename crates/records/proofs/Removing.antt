@@ -26,7 +26,7 @@ use denote.Slice.{sliceVal, Room}
 use denote.Index.{elem-back, opens-slice, closes-slice}
 use denote.Triple.Statement.{Triple}
 use Rattle.links.specs.Links.{gapClosed}
-use Rattle.links.proofs.Closing.{moving, moving-start, length-moving, moving-more, gap-none, gap-closed}
+use Rattle.records.proofs.Closing.{moving, moving-start, length-moving, moving-more, gap-none, gap-closed}
 use Rattle.links.proofs.used.Symbol.{name as #used}
 use Rattle.records.proofs.Shelf.{Shelf, row, Record, ty, typed, place-fits, place-at}
 use Rattle.records.proofs.Steps.{var, sets, record-out, record-put}

@@ -78,18 +78,6 @@ pub fn clear(s: &mut [u8], from: usize, n: usize)
     }
 }
 
-// The n numbers from there on become zero.
-pub fn clear_numbers(l: &mut [u32], from: usize, n: usize)
-    requires { ⌜ from + n ≤ length (now l) ⌝ }
-    ensures { λ _. ⌜ now (l .exit) ≡ cleared (now (l .entry)) from n ⌝ }
-{
-    let mut i = 0;
-    while i < n {
-        l[from + i] = 0;
-        i += 1;
-    }
-}
-
 // The place that begins at `at` gets the message, and what follows in the place becomes zero.
 pub fn put(store: &mut [u8], at: usize, message: &[u8])
     requires { ⌜ (length (now message) ≤ 32) × (at + 33 ≤ length (now store)) ⌝ }

@@ -1,5 +1,5 @@
 -- `entry::no_links` meets its contract: 256 times the record of 0. Assumes nothing.
-use mathlib.Core.Path.{_≡_, ap₂}
+use mathlib.Core.Path.{ap₂}
 use borrow.Author.Needs.{needs}
 use lib.ListN.{replicate}
 use Rattle.records.specs.declared.principals.PrincipalLink.{PrincipalLink}

@@ -1,6 +1,5 @@
 -- `entry::over_numbers` meets its contract: what a whole list has is handed on. Assumes nothing.
 use mathlib.Core.Path.{_≡_, sym, ap, ap₂, _∙_}
-use mathlib.Core.List.{List}
 use Prim.Native.Nat.{ℕ, _≤_}
 use native.Mathlib.Omega.{arith}
 use borrow.Author.Needs.{needs}
@@ -8,7 +7,7 @@ use lib.ListN.{length, take}
 use lib.Seq.{length-take-le}
 use Rattle.numbers.proofs.Passes.{mapped}
 use Rattle.step.specs.declared.Stepped.{Stepped}
-use Rattle.monitor.specs.Monitor.{requested, replyOf}
+use Rattle.monitor.specs.Monitor.{requested}
 use Rattle.entry.specs.Entry.{overNumbers}
 use Rattle.entry.proofs.OverRecords.{places-low}
 use Rattle.entry.proofs.over_numbers.Statement.{statement}

@@ -62,7 +62,8 @@ use Rattle.entry.proofs.Told as Td
 use Rattle.entry.proofs.Told.Laws as Td′
 use Rattle.entry.proofs.Elements.{Each}
 use Rattle.entry.proofs.Lent.{Row, Mine, Numbers, PutBack, calls-numbers, calls-put-back}
-use Rattle.entry.proofs.OverRecords.{same-principals, same-tags, handedLinks, handedGrants, replied-is, links-are, grants-are, store-is, answer-is}
+use Rattle.records.proofs.Readings.{same-principals, same-tags}
+use Rattle.entry.proofs.OverRecords.{handedLinks, handedGrants, replied-is, links-are, grants-are, store-is, answer-is}
 use Rattle.records.proofs.principals.numbers_of.Symbol as principal-numbers-def
 use Rattle.records.proofs.principals.numbers_of.Symbol.{name as #principal-numbers}
 use Rattle.records.proofs.principals.numbers_of.Met as principal-numbers-thm

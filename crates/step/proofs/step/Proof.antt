@@ -13,7 +13,6 @@ use Rattle.outcomes.specs.declared.Outcome.{Outcome}
 use Rattle.rules.proofs.RuleLaws.{rules-but-truth}
 use Rattle.rules.proofs.Gives.{memory-fits}
 use Rattle.step.specs.declared.Considered.{Considered}
-use Rattle.step.specs.declared.Replied.{Replied}
 use Rattle.step.specs.declared.Stepped.{Stepped}
 use Rattle.step.specs.World.{World, worldOf, applied, HasRoom}
 use Rattle.step.specs.Step.{asked, remembers, After, answeredWith}
