@@ -1,6 +1,6 @@
 -- A function that changes a lent list of records. Its parameters are the list, how many of the places are in use, and one value more, and its contract says what the list is at exit.
 --     Change S         such a function: the value's type, and what becomes of the list
---     Changes c        its contract
+--     Changes c        its contract.        ended, promise     its signature, and what it says
 --     Obs, Bor         what is had of the list while nobody else has it: with the lifetime's token, it can be opened
 --     ends             how a walk of the function ends, with the list zs.        ends-with     the same, where the list is still had
 --     meets-by         the function meets its contract, by a walk
@@ -38,6 +38,7 @@ use denote.Triple.Statement.{Contract, Triple}
 use denote.Triple.Walked.{says, Stays, stay-none, gave-slice, walkOf, goes-none, goes-gave-slice, ends-at, walked, walk-meets}
 use denote.Exit.{yes}
 use Rattle.records.proofs.Shelf.{Shelf, lain, row, Record, far}
+use Rattle.records.proofs.Stated.{Promise, promises}
 
 -- a type of plain data
 pub record Kind : Type 2 where
@@ -94,19 +95,18 @@ module _ (S : Shelf) (c : Change S) where
     result = plain (λ κs. unit);
   }
 
-  abbrev ended : Ended
+  abbrev pub ended : Ended
   ended = record { signature = signature; kept = (yes, (yes, (yes, tt))) }
 
   abbrev stayed : Stays (ended .signature .params) (ended .kept)
   stayed = (gave-slice (0 ∷ []) tt (plain (λ _. row S)), (stay-none (λ _. usize) yes, (stay-none (λ _. extra) yes, tt)))
 
   module _ {M : Type 1} (𝓤 : URA M) where
+    abbrev pub promise : Promise 𝓤 ended
+    promise κs a r e = fact 𝓤 (now (e .0) ≡ c .becomes (now (a .0)) (a .1 .0) (a .1 .1 .0))
+
     abbrev clauses : Clauses 𝓤 ended
-    clauses κs a = record {
-      ghost = Unit {0};
-      requires = λ g. emp 𝓤;
-      ensures = λ g r e. fact 𝓤 (now (e .0) ≡ c .becomes (now (a .0)) (a .1 .0) (a .1 .1 .0));
-    }
+    clauses = promises 𝓤 ended promise
 
     module _ (H : Heap 𝓤) (A : Atoms 𝓤) where
       abbrev pub Changes : Contract 𝓤

@@ -51,6 +51,7 @@ use Rattle.links.proofs.lists.Found.Laws as F′
 use Rattle.records.proofs.Element.{numbering, numbers, slice, Lent}
 use Rattle.records.proofs.FindLaws.{foundFrom, found-hit, found-past, found-end}
 use Rattle.records.proofs.Shelf.{Shelf, row, Record, ty}
+use Rattle.records.proofs.Stated.{Promise, promises}
 use Rattle.records.proofs.Told.{Told, calls-told, used, numberOf}
 
 abbrev word : Ty
@@ -117,17 +118,16 @@ module _ (S : Shelf) where
         result = plain (λ κs. F.the-row);
       }
 
-  abbrev ended : Ended
+  abbrev pub ended : Ended
   ended = record { signature = signature; kept = (yes, (yes, (yes, tt))) }
 
-  abbrev clauses : {M : Type 1} (𝓤 : URA M) → Clauses 𝓤 ended
-  clauses 𝓤 κs a = record {
-    ghost = Unit {0};
-    requires = λ g. emp 𝓤;
-    ensures = λ g r e. fact 𝓤 (r ≡ findIn (take (a .1 .0) (map (S .number) (now (a .0)))) (S .number (a .1 .1 .0)));
-  }
+  abbrev pub promise : {M : Type 1} (𝓤 : URA M) → Promise 𝓤 ended
+  promise 𝓤 κs a r e = fact 𝓤 (r ≡ findIn (take (a .1 .0) (map (S .number) (now (a .0)))) (S .number (a .1 .1 .0)))
 
-  abbrev pub Find : {M : Type 1} (𝓤 : URA M) (H : Heap 𝓤) (A : Atoms 𝓤) → Contract 𝓤
+  abbrev clauses : {M : Type 1} (𝓤 : URA M) → Clauses 𝓤 ended
+  clauses 𝓤 = promises 𝓤 ended (promise 𝓤)
+
+  abbrev Find : {M : Type 1} (𝓤 : URA M) (H : Heap 𝓤) (A : Atoms 𝓤) → Contract 𝓤
   Find 𝓤 H A = tripleOf 𝓤 H A signature (closing 𝓤 H A ended (clauses 𝓤))
 
   abbrev stayed : Stays (ended .signature .params) (ended .kept)

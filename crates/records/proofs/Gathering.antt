@@ -47,6 +47,7 @@ use Rattle.records.specs.Records.{gathered}
 use Rattle.records.proofs.Element.{numbering, numbers, slice, Lent}
 use Rattle.records.proofs.GatherLaws.{upTo, upTo-length, upTo-next, upTo-end}
 use Rattle.records.proofs.Shelf.{Shelf, row, Record, ty}
+use Rattle.records.proofs.Stated.{Promise, promises}
 use Rattle.records.proofs.Told.{Told, calls-told, used, numberOf}
 
 abbrev word : Ty
@@ -105,12 +106,11 @@ module _ (S : Shelf) where
   abbrev pub ended : Ended
   ended = record { signature = signature; kept = (yes, (yes, tt)) }
 
+  abbrev pub promise : {M : Type 1} (𝓤 : URA M) → Promise 𝓤 ended
+  promise 𝓤 κs a r e = fact 𝓤 (now (e .1 .0) ≡ gathered (S .number) (now (a .0)) (now (a .1 .0)))
+
   abbrev pub clauses : {M : Type 1} (𝓤 : URA M) → Clauses 𝓤 ended
-  clauses 𝓤 κs a = record {
-    ghost = Unit {0};
-    requires = λ g. emp 𝓤;
-    ensures = λ g r e. fact 𝓤 (now (e .1 .0) ≡ gathered (S .number) (now (a .0)) (now (a .1 .0)));
-  }
+  clauses 𝓤 = promises 𝓤 ended (promise 𝓤)
 
   abbrev pub Gather : {M : Type 1} (𝓤 : URA M) (H : Heap 𝓤) (A : Atoms 𝓤) → Contract 𝓤
   Gather 𝓤 H A = tripleOf 𝓤 H A signature (closing 𝓤 H A ended (clauses 𝓤))

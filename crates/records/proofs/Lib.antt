@@ -12,5 +12,6 @@ pub mod PuttingBack
 pub mod Readings
 pub mod Removing
 pub mod Shelf
+pub mod Stated
 pub mod Steps
 pub mod Told
