@@ -22,7 +22,7 @@ use Rattle.frames.specs.declared.requests.AuthorityRequest.{AuthorityRequest}
 use Rattle.frames.specs.declared.requests.AuthorityRequest.the-variants.{NewPrincipal}
 use Rattle.frames.specs.declared.requests.Request.the-variants.{OfAuthority}
 use Rattle.sight.specs.Sight.{sightOf}
-use Rattle.prelude.specs.Prelude.{isSupertag}
+use Rattle.named.specs.Named.{isSupertag}
 use Rattle.outcomes.specs.declared.Outcome.{Outcome}
 use Rattle.row_rules.specs.RowRules.{rankHolds}
 use Rattle.row_rules.specs.RowRules as rank

@@ -22,9 +22,11 @@ use Rattle.answers.specs.declared.Refusal.{Refusal}
 use Rattle.answers.specs.declared.Refusal.the-variants.{Malformed, NotLive, Unnamed, Flow, Authority, Cycle, Full, Empty, BrokenRule}
 use Rattle.answers.specs.Answers.{refusalNumber, statusOf, answerBytes, front}
 use Rattle.sight.specs.declared.Sight.{Sight}
+use Rattle.named.specs.Named.{named}
+use Rattle.flows.specs.Flows.{flows}
 use Rattle.prelude.specs.declared.Checked.{Checked}
 use Rattle.prelude.specs.declared.Checked.the-variants.{Passed, Stopped}
-use Rattle.prelude.specs.Prelude.{prelude, named, flows}
+use Rattle.prelude.specs.Prelude.{prelude}
 use Rattle.outcomes.specs.declared.Outcome.{Outcome}
 use Rattle.outcomes.specs.Outcomes.{refused}
 use Rattle.rules.specs.Tested.{breakNoRule}

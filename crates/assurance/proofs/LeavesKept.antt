@@ -27,7 +27,7 @@ use Rattle.answers.specs.declared.Refusal.the-variants.{Malformed, NotLive, Unn
 use Rattle.answers.specs.Answers.{refusalNumber, statusOf, answerBytes, front}
 use Rattle.sight.specs.declared.Sight.{Sight}
 use Rattle.sight.specs.Sight.{sightOf}
-use Rattle.prelude.specs.Prelude.{authorityNamed, named}
+use Rattle.named.specs.Named.{authorityNamed, named}
 use Rattle.outcomes.specs.declared.Outcome.{Outcome}
 use Rattle.outcomes.specs.Outcomes.{refused}
 use Rattle.apply.specs.Apply.{forked, called, backFrom}

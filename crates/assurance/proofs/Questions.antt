@@ -20,8 +20,10 @@ use Rattle.frames.specs.declared.requests.Request.the-variants.{OfAuthority, Of
 use Rattle.frames.specs.Requests.{threadOf, kindOf, requestOf, wellFormed}
 use Rattle.sight.specs.declared.Sight.{Sight}
 use Rattle.sight.specs.Sight.{tagNamed}
+use Rattle.named.specs.Named.{isSupertag, tagMade, named}
+use Rattle.flows.specs.Flows.{flows}
 use Rattle.prelude.specs.declared.Checked.{Checked}
-use Rattle.prelude.specs.Prelude.{isSupertag, tagMade, named, prelude, asks, flows}
+use Rattle.prelude.specs.Prelude.{prelude, asks}
 use Rattle.row_rules.specs.RowRules.{labelsMade, asideMade}
 use Rattle.step.specs.Step.{passes, seen, checked, asksOne, pairAsked, walked}
 use Rattle.assurance.specs.Runs.{Machine}

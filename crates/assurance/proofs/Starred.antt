@@ -3,13 +3,13 @@ use mathlib.Core.Path.{refl}
 use Rattle.decide_authority.specs.Authority.{newPrincipal, delegate, revoke, tellsActsFor, tagIfRoom, newTag, newSubtag, grant, ungrant}
 use Rattle.decide_objects.specs.Objects.{newObject, put, get, lock}
 use Rattle.decide_threads.specs.Threads.{outOfSecrecy, intoIntegrity, returned, fork, call}
-use Rattle.frames.specs.Needs.{needOf}
 use Rattle.frames.specs.Requests.{fixedLength, lengthByte, authorityRequest, threadRequest, objectRequest, outsideRequest, wellFormed, requestBy}
 use Rattle.links.specs.Authority.{actsForSome}
 use Rattle.links.specs.Cycles.{everyLink, noCycle}
 use Rattle.links.specs.Links.{linksFrom, findFrom, gapClosed}
 use Rattle.links.specs.Paths.{joins, leads}
 use Rattle.memory.specs.Remembered.{without, remembered}
+use Rattle.needs.specs.Needs.{needOf}
 use Rattle.numbers.specs.Below.{allBelow, anyBelow, countBelow}
 use Rattle.numbers.specs.Labels.{within, withTag, withoutTag, union, namesOnlyMade, size}
 use Rattle.numbers.specs.Sets.{setOf}

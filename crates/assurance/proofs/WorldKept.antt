@@ -19,7 +19,7 @@ use Rattle.frames.specs.declared.requests.ObjectRequest.{ObjectRequest}
 use Rattle.frames.specs.declared.requests.OutsideRequest.the-variants.{SendOut, BringIn}
 use Rattle.frames.proofs.Spans.{Spans, spans-fit}
 use Rattle.sight.specs.Sight.{sightOf}
-use Rattle.prelude.specs.Prelude.{named}
+use Rattle.named.specs.Named.{named}
 use Rattle.outcomes.specs.declared.Outcome.{Outcome}
 use Rattle.outcomes.specs.declared.RowChange.{RowChange}
 use Rattle.outcomes.specs.declared.RowChange.the-variants as rows

@@ -13,7 +13,8 @@ use Rattle.frames.specs.Requests.{threadOf, kindOf, requestOf, wellFormed}
 use Rattle.answers.specs.Answers.{statusOf, front}
 use Rattle.sight.specs.declared.Sight.{Sight}
 use Rattle.sight.specs.Sight.{tagNamed}
-use Rattle.prelude.specs.Prelude.{named, flows}
+use Rattle.named.specs.Named.{named}
+use Rattle.flows.specs.Flows.{flows}
 use Rattle.rules.specs.Tested.{breakNoRule}
 use Rattle.state.specs.declared.State.{State}
 use Rattle.decide.specs.Decide.{decide}

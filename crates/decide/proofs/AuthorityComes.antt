@@ -24,7 +24,7 @@ use Rattle.frames.specs.declared.requests.AuthorityRequest.the-variants.{NewPri
 use Rattle.answers.specs.declared.Refusal.{Refusal}
 use Rattle.answers.specs.declared.Refusal.the-variants.{Authority, Cycle, Full}
 use Rattle.sight.specs.declared.Sight.{Sight}
-use Rattle.prelude.specs.Prelude.{principalMade, tagMade, isSupertag, authorityNamed}
+use Rattle.named.specs.Named.{principalMade, tagMade, isSupertag, authorityNamed}
 use Rattle.outcomes.specs.declared.Outcome.{Outcome}
 use Rattle.outcomes.specs.declared.ListChange.{ListChange}
 use Rattle.outcomes.specs.declared.ListChange.the-variants as list

@@ -23,7 +23,7 @@ use Rattle.answers.specs.declared.Answer.the-variants.{Done, Value, Kept}
 use Rattle.answers.specs.declared.Refusal.{Refusal}
 use Rattle.answers.specs.declared.Refusal.the-variants.{Full, Empty}
 use Rattle.sight.specs.declared.Sight.{Sight}
-use Rattle.prelude.specs.Prelude.{isCell, isQueue, isLock, objectFits}
+use Rattle.named.specs.Named.{isCell, isQueue, isLock, objectFits}
 use Rattle.outcomes.specs.declared.Outcome.{Outcome}
 use Rattle.outcomes.specs.declared.StoreChange.the-variants as store
 use Rattle.outcomes.specs.declared.RowChange.the-variants as rows

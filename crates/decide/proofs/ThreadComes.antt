@@ -18,7 +18,7 @@ use Rattle.answers.specs.declared.Answer.the-variants.{Done, Value}
 use Rattle.answers.specs.declared.Refusal.{Refusal}
 use Rattle.answers.specs.declared.Refusal.the-variants.{Authority, Full, Empty}
 use Rattle.sight.specs.declared.Sight.{Sight}
-use Rattle.prelude.specs.Prelude.{principalMade, tagMade, threadNamed}
+use Rattle.named.specs.Named.{principalMade, tagMade, threadNamed}
 use Rattle.outcomes.specs.declared.Outcome.{Outcome}
 use Rattle.outcomes.specs.declared.RowChange.the-variants as rows
 use Rattle.outcomes.specs.Outcomes.{rowsChanged, refused, done}

@@ -13,7 +13,7 @@ use Rattle.numbers.specs.declared.labels.Label.{Label}
 use Rattle.numbers.specs.declared.flow.LabelPair.{LabelPair}
 use Rattle.numbers.specs.LabelBytes.{labelOfBytes}
 use Rattle.numbers.specs.Numbers.{longestMessage}
-use Rattle.frames.specs.Needs.{oneOf}
+use Rattle.needs.specs.Needs.{oneOf}
 use Rattle.frames.specs.declared.requests.Span.{Span}
 use Rattle.frames.specs.declared.requests.ObjectKind.{ObjectKind}
 use Rattle.frames.specs.declared.requests.ObjectKind.the-variants as kind

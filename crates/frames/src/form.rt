@@ -2,8 +2,8 @@
 // kind over 2". The length of a frame is looked up by kind.
 ghost use mathlib.Core.Path.{_≡_};
 ghost use Rattle.frames.specs.Requests.{fixedLength, lengthByte, messageLength, wellFormed};
-use crate::KINDS;
 use crate::decode::byte_at;
+use needs::KINDS;
 use numbers::LONGEST;
 
 // How long a frame of a kind is, but for the bytes of a message.

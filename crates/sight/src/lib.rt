@@ -1,6 +1,7 @@
 // What a request sees of the tables before the links are asked: who asks, with which labels, how much room
 // there is, and the tag and the object that it names. The memory is not among it.
-// On it stand the refusals 2, 3 and 4, and whether a request asks for authority (crate `prelude`).
+// On it stand the refusals 2, 3 and 4, and whether a request asks for authority (crates `named`, `flows` and
+// `prelude`).
 mod names;
 
 pub use names::tag_named;

@@ -9,8 +9,10 @@ use Rattle.tables.specs.declared.Tables.{Tables}
 use Rattle.frames.specs.Requests.{kindOf, requestOf, wellFormed}
 use Rattle.answers.specs.declared.Refusal.{Refusal}
 use Rattle.answers.specs.declared.Refusal.the-variants.{Malformed, NotLive, Unnamed, Flow}
+use Rattle.named.specs.Named.{named}
+use Rattle.flows.specs.Flows.{flows}
 use Rattle.prelude.specs.declared.Checked.{Checked}
-use Rattle.prelude.specs.Prelude.{prelude, named, flows}
+use Rattle.prelude.specs.Prelude.{prelude}
 use Rattle.outcomes.specs.declared.Outcome.{Outcome}
 use Rattle.outcomes.specs.Outcomes.{refused}
 use Rattle.decide.specs.Decide.{decide}

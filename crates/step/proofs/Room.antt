@@ -32,7 +32,7 @@ use Rattle.answers.specs.declared.Answer.{Answer}
 use Rattle.answers.specs.Answers.{Ready}
 use Rattle.sight.specs.declared.Sight.{Sight}
 use Rattle.sight.specs.Sight.{sightOf}
-use Rattle.prelude.specs.Prelude.{named}
+use Rattle.named.specs.Named.{named}
 use Rattle.outcomes.specs.declared.Outcome.{Outcome}
 use Rattle.outcomes.specs.declared.ListChange.{ListChange}
 use Rattle.outcomes.specs.declared.ListChange.the-variants as list

@@ -1,13 +1,13 @@
--- `frames::need_of` meets its contract: the table is the list of the rule's values. Assumes nothing.
+-- `needs::need_of` meets its contract: the table is the list of the rule's values. Assumes nothing.
 use mathlib.Core.Path.{sym}
 use native.Mathlib.Omega.{arith}
 use borrow.Author.Needs.{needs}
 use Rattle.numbers.specs.declared.flow.Need.the-variants.{None}
 use Rattle.numbers.proofs.Table.{entry}
-use Rattle.frames.specs.Needs.{needOf}
-use Rattle.frames.proofs.KindLaws.{unknown-needs-none}
-use Rattle.frames.proofs.need_of.Statement.{statement}
-use Rattle.frames.proofs.need_of.Tie as tie
+use Rattle.needs.specs.Needs.{needOf}
+use Rattle.needs.proofs.KindLaws.{unknown-needs-none}
+use Rattle.needs.proofs.need_of.Statement.{statement}
+use Rattle.needs.proofs.need_of.Tie as tie
 
 array-copy-out-result : tie.Need-array-copy-out-result
 array-copy-out-result c = search needs

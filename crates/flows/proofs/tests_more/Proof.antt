@@ -1,7 +1,7 @@
--- `prelude::tests_more` meets its contract: a kind an arm. Assumes nothing.
+-- `flows::tests_more` meets its contract: a kind an arm. Assumes nothing.
 use borrow.Author.Needs.{needs}
-use Rattle.prelude.proofs.tests_more.Statement.{statement}
-use Rattle.prelude.proofs.tests_more.Tie as tie
+use Rattle.flows.proofs.tests_more.Statement.{statement}
+use Rattle.flows.proofs.tests_more.Tie as tie
 
 pub tests-more-spec : {M : Type 1} → statement M
 tests-more-spec =

@@ -1,7 +1,7 @@
--- `prelude::outside_more` meets its contract: a kind an arm. Assumes nothing.
+-- `flows::outside_more` meets its contract: a kind an arm. Assumes nothing.
 use borrow.Author.Needs.{needs}
-use Rattle.prelude.proofs.outside_more.Statement.{statement}
-use Rattle.prelude.proofs.outside_more.Tie as tie
+use Rattle.flows.proofs.outside_more.Statement.{statement}
+use Rattle.flows.proofs.outside_more.Tie as tie
 
 pub outside-more-spec : {M : Type 1} → statement M
 outside-more-spec =

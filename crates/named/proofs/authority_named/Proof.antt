@@ -1,7 +1,7 @@
--- `prelude::authority_named` meets its contract: a kind an arm. Assumes nothing.
+-- `named::authority_named` meets its contract: a kind an arm. Assumes nothing.
 use borrow.Author.Needs.{needs}
-use Rattle.prelude.proofs.authority_named.Statement.{statement}
-use Rattle.prelude.proofs.authority_named.Tie as tie
+use Rattle.named.proofs.authority_named.Statement.{statement}
+use Rattle.named.proofs.authority_named.Tie as tie
 
 pub authority-named-spec : {M : Type 1} → statement M
 authority-named-spec =

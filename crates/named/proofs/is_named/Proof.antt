@@ -1,7 +1,7 @@
--- `prelude::is_named` meets its contract: a kind an arm. Assumes nothing.
+-- `named::is_named` meets its contract: a kind an arm. Assumes nothing.
 use borrow.Author.Needs.{needs}
-use Rattle.prelude.proofs.is_named.Statement.{statement}
-use Rattle.prelude.proofs.is_named.Tie as tie
+use Rattle.named.proofs.is_named.Statement.{statement}
+use Rattle.named.proofs.is_named.Tie as tie
 
 pub is-named-spec : {M : Type 1} → statement M
 is-named-spec =

@@ -1,7 +1,7 @@
--- `prelude::thread_named` meets its contract: a kind an arm. Assumes nothing.
+-- `named::thread_named` meets its contract: a kind an arm. Assumes nothing.
 use borrow.Author.Needs.{needs}
-use Rattle.prelude.proofs.thread_named.Statement.{statement}
-use Rattle.prelude.proofs.thread_named.Tie as tie
+use Rattle.named.proofs.thread_named.Statement.{statement}
+use Rattle.named.proofs.thread_named.Tie as tie
 
 pub thread-named-spec : {M : Type 1} → statement M
 thread-named-spec =

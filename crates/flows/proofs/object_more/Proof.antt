@@ -1,7 +1,7 @@
--- `prelude::object_more` meets its contract: a kind an arm. Assumes nothing.
+-- `flows::object_more` meets its contract: a kind an arm. Assumes nothing.
 use borrow.Author.Needs.{needs}
-use Rattle.prelude.proofs.object_more.Statement.{statement}
-use Rattle.prelude.proofs.object_more.Tie as tie
+use Rattle.flows.proofs.object_more.Statement.{statement}
+use Rattle.flows.proofs.object_more.Tie as tie
 
 pub object-more-spec : {M : Type 1} → statement M
 object-more-spec =

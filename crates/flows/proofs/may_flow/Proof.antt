@@ -1,7 +1,7 @@
--- `prelude::may_flow` meets its contract: the need is looked up, and the rest tested. Assumes nothing.
+-- `flows::may_flow` meets its contract: the need is looked up, and the rest tested. Assumes nothing.
 use borrow.Author.Needs.{needs}
-use Rattle.prelude.proofs.may_flow.Statement.{statement}
-use Rattle.prelude.proofs.may_flow.Tie as tie
+use Rattle.flows.proofs.may_flow.Statement.{statement}
+use Rattle.flows.proofs.may_flow.Tie as tie
 
 pub may-flow-spec : {M : Type 1} → statement M
 may-flow-spec =

@@ -1,7 +1,7 @@
--- `prelude::object_fits` meets its contract: a kind an arm. Assumes nothing.
+-- `named::object_fits` meets its contract: a kind an arm. Assumes nothing.
 use borrow.Author.Needs.{needs}
-use Rattle.prelude.proofs.object_fits.Statement.{statement}
-use Rattle.prelude.proofs.object_fits.Tie as tie
+use Rattle.named.proofs.object_fits.Statement.{statement}
+use Rattle.named.proofs.object_fits.Tie as tie
 
 pub object-fits-spec : {M : Type 1} → statement M
 object-fits-spec =
