@@ -4,12 +4,14 @@ use mathlib.Core.Path.{_≡_, refl, sym, subst, ap, ap₂, _∙_}
 use mathlib.Core.Bool.{Bool, true, false}
 use mathlib.Core.List.{List, [], _∷_, map}
 use mathlib.Core.Logic.{⊎-elim}
-use Prim.Native.Nat.{ℕ, zero, suc, _/_, _%_, _≤_, _<_}
+use Prim.Native.Nat.{ℕ, zero, suc, _*_, _≤_, _<_}
 use native.Mathlib.Omega.{arith}
 use borrow.Author.Tests.{ltb-true, leb-true, leb-false}
 use lib.Dec.{ltb, leb}
 use lib.ListN.{length, getD}
 use Rattle.numbers.proofs.Bools.{either, and-left}
+use Rattle.numbers.specs.Numbers.{linkPlaces}
+use Rattle.link_rules.specs.LinkRules.{made, tagIn}
 use Rattle.memory.specs.declared.Memory.{Memory}
 use Rattle.tables.specs.declared.Tables.{Tables}
 use Rattle.records.specs.Records.{principalNumber, principalLink, tagNumber, tagLink}
@@ -26,28 +28,23 @@ use Rattle.assurance.proofs.Fresh.{fresh-sound}
 
 -- ---- in lists that break no rule a number is that of its record
 
+-- a list of n links in use, each of one of k tags, and zero past them: no number reaches the tag b
+low : (l : List ℕ) (n k principals b : ℕ) → length l ≡ linkPlaces → ((i : ℕ) → n ≤ i → i < linkPlaces → getD l i 0 ≡ 0) → ((i : ℕ) → i < n → made l k principals i ≡ true)
+    → k ≤ b → 1 ≤ b → (i : ℕ) → i < length l → getD l i 0 < b * 65536
+low l n k principals b whole unused each few some i h =
+    ⊎-elim (λ e. let z = unused i (leb-true n i e) (omega (arith, h, whole)) in omega (arith, z, some))
+    (λ e.
+    let tag : tagIn (getD l i 0) < k = ltb-true (tagIn (getD l i 0)) k (and-left (ltb (tagIn (getD l i 0)) k) _ (each i (leb-false n i e))) in
+    omega (arith, tag, few))
+    (either (leb n i))
+
 module _ (t : Tables) (m : Memory) (l g b : List ℕ) (rules : OnlyTruthBroken t m l g b) where
-  link-low : (i : ℕ) → i < length l → getD l i 0 < 65536
-  link-low i h =
-      ⊎-elim (λ e. let z = rules .unused .links i (leb-true (t .links) i e) (omega (arith, h, rules .whole .links)) in omega (arith, z))
-      (λ e.
-      let tag : getD l i 0 / 65536 < 1 = ltb-true (getD l i 0 / 65536) 1 (and-left (ltb (getD l i 0 / 65536) 1) _ (rules .made .links i (leb-false (t .links) i e))) in
-      omega (arith, tag))
-      (either (leb (t .links) i))
-
-  grant-low : (i : ℕ) → i < length g → getD g i 0 < 16777216
-  grant-low i h =
-      ⊎-elim (λ e. let z = rules .unused .grants i (leb-true (t .grants) i e) (omega (arith, h, rules .whole .grants)) in omega (arith, z))
-      (λ e.
-      let tag : getD g i 0 / 65536 < t .tags = ltb-true (getD g i 0 / 65536) (t .tags) (and-left (ltb (getD g i 0 / 65536) (t .tags)) _ (rules .made .grants i (leb-false (t .grants) i e))) in
-      omega (arith, tag, rules .limits .tags))
-      (either (leb (t .grants) i))
-
   numbers-back : map principalNumber (map principalLink l) ≡ l
-  numbers-back = same-principal-numbers l link-low
+  numbers-back = same-principal-numbers l (low l (t .links) 1 (t .principals) 1 (rules .whole .links) (rules .unused .links) (rules .made .links) (omega arith) (omega arith))
 
   tag-numbers-back : map tagNumber (map tagLink g) ≡ g
-  tag-numbers-back = same-tag-numbers g grant-low
+  tag-numbers-back =
+      same-tag-numbers g (low g (t .grants) (t .tags) (t .principals) 256 (rules .whole .grants) (rules .unused .grants) (rules .made .grants) (omega (arith, rules .limits .tags)) (omega arith))
 
 -- ---- the machine whose numbers the records have
 
