@@ -31,6 +31,7 @@ use denote.Slice.{sliceTy, sliceVal, MutSlice, heres, Room, finally, res-finally
 use denote.Lend.{Held}
 use denote.Signature.{Signature, plain, mutSliceOf}
 use denote.Steps.{only, nothing, owned, facts, heard}
+use denote.Triple.Call.{calls-at-last}
 use denote.Triple.Clauses.{Clauses, Ended, closing, ensured, lasts}
 use denote.Triple.Entry.{Vals, onEntry}
 use denote.Triple.Spec.{Meets, tripleOf}
@@ -119,30 +120,31 @@ module _ (S : Shelf) (c : Change S) where
         abbrev args : RefT (List (Record S)) × (ℕ × (c .more .type .Denot × Unit {0}))
         args = (ref, (n, (x, tt)))
 
-        abbrev vals : Vals signature (κ, tt)
-        vals = (sliceVal (b, o) (length ys) ∷ [], (vint w64 n ∷ [], (c .more .val x ∷ [], tt)))
+        -- the machine values, where the last is u
+        abbrev vals : Val → Vals signature (κ, tt)
+        vals u = (sliceVal (b, o) (length ys) ∷ [], (vint w64 n ∷ [], (u ∷ [], tt)))
 
         abbrev pub flat : List Val
         flat = sliceVal (b, o) (length ys) ∷ vint w64 n ∷ c .more .val x ∷ []
 
-        abbrev to : Changes .Ghost
-        to = (((κ, tt), (q, tt), tt, args, vals), tt)
+        abbrev to : Val → Changes .Ghost
+        to u = (((κ, tt), (q, tt), tt, args, vals u), tt)
 
         -- what a walk shows of the result's machine value
         abbrev pub End : Val → SProp 𝓤
-        End = walkOf 𝓤 H A ended stayed clauses .post to
+        End = walkOf 𝓤 H A ended stayed clauses .post (to (c .more .val x))
 
         -- at entry the list is had
-        begins : Given 𝓤 H A → ent 𝓤 (onEntry 𝓤 H A signature (κ, tt) (q, tt) args vals) (⋆ 𝓤 H A (‵ (Obs S κ b o γ ys) ∷ ‵ (Bor S κ b o γ ys) ∷ ‵ (flft κ q) ∷ []))
+        begins : Given 𝓤 H A → ent 𝓤 (onEntry 𝓤 H A signature (κ, tt) (q, tt) args (vals (c .more .val x))) (⋆ 𝓤 H A (‵ (Obs S κ b o γ ys) ∷ ‵ (Bor S κ b o γ ys) ∷ ‵ (flft κ q) ∷ []))
         begins W =
-            qed W ((‵ (flft κ q) ⊛ ‵ ftrue) ∷ ‵ (owns (MutSlice (named 0) κ (row S) ∷ usize ∷ extra ∷ []) args vals) ∷ []) ∵
+            qed W ((‵ (flft κ q) ⊛ ‵ ftrue) ∷ ‵ (owns (MutSlice (named 0) κ (row S) ∷ usize ∷ extra ∷ []) args (vals (c .more .val x))) ∷ []) ∵
             move ! (1 ∷ []) $ fsplit ! $ fsplit ! $ drop ! $ fsplit ! $ move ! (3 ∷ []) $ split ! $ keep ! (2 ∷ 3 ∷ 0 ∷ []) $ done !
 
         module _ (W : Given 𝓤 H A) (gn : n < 2 ^ 64) (gx : Is extra x (c .more .val x ∷ [])) where
           pub ends : (zs : List (Record S)) → length zs ≡ length ys → zs ≡ c .becomes ys n x → ent 𝓤 (⋆ 𝓤 H A (‵ (flft κ q) ∷ ‵ (finally (row S) γ zs) ∷ [])) (End vunit)
           ends zs e is =
               qed W (‵ (flft κ q) ∷ ‵ (finally (row S) γ zs) ∷ []) ∵
-              suffices ! _ (ends-at 𝓤 H A ended stayed clauses W to vunit tt (zs, (tt, (tt, tt))) (e, (tt, (tt, tt)))) $ says ! is $ nothing ! $ move ! (1 ∷ 0 ∷ []) $ join ! $ frame ! $
+              suffices ! _ (ends-at 𝓤 H A ended stayed clauses W (to (c .more .val x)) vunit tt (zs, (tt, (tt, tt))) (e, (tt, (tt, tt)))) $ says ! is $ nothing ! $ move ! (1 ∷ 0 ∷ []) $ join ! $ frame ! $
               nothing ! $ owned ! extra (Is extra) (c .more .makes 𝓤 H A W) x _ gx $ fjoin ! $ owned ! usize (Is usize) (uint-makes 𝓤 H A W w64) n _ (refl, gn) $ fjoin ! $
               move ! (1 ∷ 0 ∷ []) $ fjoin ! $ frame ! $
               owned ! unit (Is unit) (nothing-makes 𝓤 H A W) tt _ refl $ done !
@@ -153,16 +155,14 @@ module _ (S : Shelf) (c : Change S) where
               use1 W (‵ (fres γ (codedHoleys (row S) .code (heres (row S) zs)))) (W .names .obs-res γ (codedHoleys (row S) .code (heres (row S) zs))) $
               use1 W (‵ (finally (row S) γ zs)) (res-finally 𝓤 H A W (named 0) κ (row S) γ zs) $ keep ! (2 ∷ 0 ∷ []) $ by ! (ends zs e is)
 
-          -- what a caller hands over
-          asked : Room (row S) (length ys) → ent 𝓤 (sep 𝓤 (sem 𝓤 H A (Obs S κ b o γ ys)) (sep 𝓤 (sem 𝓤 H A (Bor S κ b o γ ys)) (A .lft κ q))) (Changes .pre to)
-          asked room =
-              let P : SProp 𝓤 = onEntry 𝓤 H A signature (κ, tt) (q, tt) args vals in
-              via 𝓤 P
-              (qed W (‵ (Obs S κ b o γ ys) ∷ ‵ (Bor S κ b o γ ys) ∷ ‵ (flft κ q) ∷ []) ∵ nothing ! $ move ! (3 ∷ 0 ∷ []) $ join ! $ frame ! $
-              fjoin ! $ pureI ! (at-slice (row S) ref (vals .0)) (tt, (tt, tt)) (refl, room) $ fjoin ! $
-              nothing ! $ owned ! extra (Is extra) (c .more .makes 𝓤 H A W) x _ gx $ fjoin ! $ owned ! usize (Is usize) (uint-makes 𝓤 H A W w64) n _ (refl, gn) $ fjoin ! $
-              move ! (1 ∷ 0 ∷ []) $ fjoin ! $ done !)
-              (via 𝓤 (sep 𝓤 (emp 𝓤) P) (emp∗ 𝓤 P) (comm∗ 𝓤 (emp 𝓤) P))
+        -- what a caller hands over
+        asked : Given 𝓤 H A → (u : Val) → Room (row S) (length ys) → n < 2 ^ 64 → Is extra x (u ∷ [])
+            → ent 𝓤 (sep 𝓤 (sem 𝓤 H A (Obs S κ b o γ ys)) (sep 𝓤 (sem 𝓤 H A (Bor S κ b o γ ys)) (A .lft κ q))) (Changes .pre (to u))
+        asked W u room gn gx =
+            qed W (‵ (Obs S κ b o γ ys) ∷ ‵ (Bor S κ b o γ ys) ∷ ‵ (flft κ q) ∷ []) ∵ nothing ! $ move ! (3 ∷ 0 ∷ []) $ join ! $ move ! (1 ∷ 2 ∷ []) $
+            fjoin ! $ pureI ! (at-slice (row S) ref (vals u .0)) (tt, (tt, tt)) (refl, room) $ fjoin ! $
+            nothing ! $ owned ! extra (Is extra) (c .more .makes 𝓤 H A W) x _ gx $ fjoin ! $ owned ! usize (Is usize) (uint-makes 𝓤 H A W w64) n _ (refl, gn) $ fjoin ! $
+            move ! (1 ∷ 0 ∷ []) $ fjoin ! $ move ! (1 ∷ 0 ∷ []) $ join ! $ frame ! $ done !
 
       module _ (W : Given 𝓤 H A) where
         pub meets-by : (f : Fn) (𝓣 : Tables 𝓤 H)
@@ -182,31 +182,19 @@ module _ (S : Shelf) (c : Change S) where
 module _ {M : Type 1} {𝓤 : URA M} {H : Heap 𝓤} {A : Atoms 𝓤} {K : Type 0} {W : Given 𝓤 H A} {Γ : List (Item 𝓤)} {E : Env 𝓤 H} {C : Calls 𝓤 H} {Λ : Loops 𝓤 H} {p : Post 𝓤 H} {f : Name}
     {xs : List Operand} {d : Place} where
   pub calls-change : K → FmC 𝓤 H (W .laws) C → (S : Shelf) (c : Change S) → Triple 𝓤 (C f) (Changes S c 𝓤 H A)
-      → (κ : Lft) (q : Share) (b o : ℕ) (γ : GName) (ys : List (Record S)) (n : ℕ) (x : c .more .type .Denot) → Room (row S) (length ys) → n < 2 ^ 64 → Is (extra S c) x (c .more .val x ∷ [])
-      → Opds K W (‵ (Obs S κ b o γ ys) ∷ ‵ (Bor S κ b o γ ys) ∷ ‵ (flft κ q) ∷ Γ) E xs (flat S c 𝓤 H A κ q b o γ ys n x)
+      → (κ : Lft) (q : Share) (b o : ℕ) (γ : GName) (ys : List (Record S)) (n : ℕ) (x : c .more .type .Denot) {u : Val} → Room (row S) (length ys) → n < 2 ^ 64 → Is (extra S c) x (u ∷ [])
+      → ((i : Item 𝓤) → Opds K W (i ∷ Γ) E xs (sliceVal (b, o) (length ys) ∷ vint w64 n ∷ u ∷ []))
       → ((zs : List (Record S)) → length zs ≡ length ys → zs ≡ c .becomes ys n x → Seq K W (‵ (flft κ q) ∷ ‵ (finally (row S) γ zs) ∷ Γ) (settles E d vunit p))
       → Seq K W (‵ (Obs S κ b o γ ys) ∷ ‵ (Bor S κ b o γ ys) ∷ ‵ (flft κ q) ∷ Γ) (runs C Λ E (call f xs d) p)
-  calls-change t fm S c met κ q b o γ ys n x room gn gx os k =
-      let Q : Val → SProp 𝓤 = Changes S c 𝓤 H A .post (to S c 𝓤 H A κ q b o γ ys n x) in
-      let goal : Val → SProp 𝓤 = λ v. aim 𝓤 H (settles E d v p) in
-      let vs : List Val = flat S c 𝓤 H A κ q b o γ ys n x in
-      let runs-it : Seq K W (‵ (Obs S κ b o γ ys) ∷ ‵ (Bor S κ b o γ ys) ∷ ‵ (flft κ q) ∷ Γ) (prop (C f vs goal)) =
-      use3 W (raw (C f vs Q)) (via 𝓤 (Changes S c 𝓤 H A .pre (to S c 𝓤 H A κ q b o γ ys n x)) (asked S c 𝓤 H A κ q b o γ ys n x W gn gx room) (met (to S c 𝓤 H A κ q b o γ ys n x))) $
-      record {
-        prf =
-            via 𝓤 (sep 𝓤 (C f vs Q) (⋆ 𝓤 H A Γ)) (pop 𝓤 H A (raw (C f vs Q)) Γ)
-            (fm f vs Q goal (⋆ 𝓤 H A Γ) (λ v. via 𝓤 (⋆ 𝓤 H A (raw (Q v) ∷ Γ)) (push 𝓤 H A (raw (Q v)) Γ) (after v .prf)));
-      } in
-      record { prf = via 𝓤 (evalOpds 𝓤 H E xs (λ us. C f us goal)) (os .go (λ us. C f us goal) (runs-it .prf)) (W .laws .⇛-intro _) }
-    where
-      after : (v : Val) → Seq K W (raw (Changes S c 𝓤 H A .post (to S c 𝓤 H A κ q b o γ ys n x) v) ∷ Γ) (settles E d v p)
-      after v =
-          use1 W (later (some (λ (r : Unit {0}).
-          ((‵ (flft κ q) ⊛ ‵ ftrue) ⊛ ‵ (Nothing .own r (v ∷ []))) ⊛ raw (ensured 𝓤 H A (ended S c) (clauses S c 𝓤) (κ, tt) (args S c 𝓤 H A κ q b o γ ys n x) tt r)))) (id⊢ 𝓤 _) $
-          await t tt $ pick t (λ r.
-          split t $ split t $ split t $ move t (2 ∷ []) $ facts t Nothing (Is Nothing) (shows 𝓤 H A Nothing) r (v ∷ []) (λ is. move t (2 ∷ []) $
-          use1 W (some (λ (ws : List (Record S) × (Unit {0} × (Unit {0} × Unit {0}))).
-          ‵ (lasts (ended S c) (κ, tt) (args S c 𝓤 H A κ q b o γ ys n x) ws) ⊛ raw (fact 𝓤 (ws .0 ≡ c .becomes ys n x)))) (id⊢ 𝓤 _) $ pick t (λ ws.
-          split t $ move t (1 ∷ []) $ heard t (ws .0 ≡ c .becomes ys n x) (λ e. fsplit t $ fsplit t $ move t (1 ∷ []) $ feqL t (λ len.
-          move t (2 ∷ 0 ∷ []) $ move t (2 ∷ []) $ drop t $ move t (2 ∷ []) $ drop t $
-          subst (λ (u : Val). Seq K W (‵ (flft κ q) ∷ ‵ (finally (row S) γ (ws .0)) ∷ Γ) (settles E d u p)) (sym (ap only is)) (k (ws .0) len e))))))
+  calls-change t fm S c met κ q b o γ ys n x {u} room gn gx os k =
+      use3 W (raw (Changes S c 𝓤 H A .pre (to S c 𝓤 H A κ q b o γ ys n x u))) (asked S c 𝓤 H A κ q b o γ ys n x W u room gn gx) $
+      calls-at-last t fm (Changes S c 𝓤 H A) met (to S c 𝓤 H A κ q b o γ ys n x u) (os _) (λ v.
+      use1 W (later (some (λ (r : Unit {0}).
+      ((‵ (flft κ q) ⊛ ‵ ftrue) ⊛ ‵ (Nothing .own r (v ∷ []))) ⊛ raw (ensured 𝓤 H A (ended S c) (clauses S c 𝓤) (κ, tt) (args S c 𝓤 H A κ q b o γ ys n x) tt r)))) (id⊢ 𝓤 _) $
+      await t tt $ pick t (λ r.
+      split t $ split t $ split t $ move t (2 ∷ []) $ facts t Nothing (Is Nothing) (shows 𝓤 H A Nothing) r (v ∷ []) (λ is. move t (2 ∷ []) $
+      use1 W (some (λ (ws : List (Record S) × (Unit {0} × (Unit {0} × Unit {0}))).
+      ‵ (lasts (ended S c) (κ, tt) (args S c 𝓤 H A κ q b o γ ys n x) ws) ⊛ raw (fact 𝓤 (ws .0 ≡ c .becomes ys n x)))) (id⊢ 𝓤 _) $ pick t (λ ws.
+      split t $ move t (1 ∷ []) $ heard t (ws .0 ≡ c .becomes ys n x) (λ e. fsplit t $ fsplit t $ move t (1 ∷ []) $ feqL t (λ len.
+      move t (2 ∷ 0 ∷ []) $ move t (2 ∷ []) $ drop t $ move t (2 ∷ []) $ drop t $
+      subst (λ (w : Val). Seq K W (‵ (flft κ q) ∷ ‵ (finally (row S) γ (ws .0)) ∷ Γ) (settles E d w p)) (sym (ap only is)) (k (ws .0) len e)))))))

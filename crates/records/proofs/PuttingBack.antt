@@ -150,7 +150,7 @@ module _ (S : Shelf) (#link-of #append #remove : Name) where
           calls-told ! fm (linkOf S) known-link (x, tt) (vint w32 x ∷ [], tt) ((refl, gx), tt) (and-then ! (var ! 19 refl) (no-more !)) (λ y is gy.
           land ! (from ! (stop !)) (init ! 9 refl (typed S 𝓤 H A W y gy)) $
           calls-change ! fm S (append S) known-append κ q b o γ ys n y room gn gy
-          (and-then ! (var ! 11 refl) (and-then ! (var ! 23 refl) (and-then ! (var ! 9 refl) (no-more !)))) (λ zs len e.
+          (λ i. and-then ! (var ! 9 refl) (and-then ! (var ! 21 refl) (and-then ! (var ! 7 refl) (no-more !)))) (λ zs len e.
           -- [the token; the last list; _12 2; _11 4; _10 6; _9 8; _8 10; _7 12; _6 14; _5 16; _4 18; ..]
           land-last ! (from ! (stop !)) (init ! 14 refl (tt, tt)) $ exec ! C Λ En over (atRet En (Post (Append x))) $
           forget ! 8 refl $ forget ! 10 refl $ forget ! 12 refl $ forget ! 14 refl $ forget ! 18 refl $ group ! 2 $
@@ -163,7 +163,7 @@ module _ (S : Shelf) (#link-of #append #remove : Name) where
           sets ! (agg ! (and-then ! (var ! 5 refl) (and-then ! (load ! (from ! (fld ! refl (stop !))) (look-in ! 25 (sub ! 1 refl (whole !)))) (no-more !)))) 3 refl
           (tt, (tt, (record { fits = room .0 }, tt))) $
           calls-change ! fm S (remove S) known-remove κ q b o γ ys n i room gn (refl, gi)
-          (and-then ! (var ! 3 refl) (and-then ! (var ! 23 refl) (and-then ! (var ! 17 refl) (no-more !)))) (λ zs len e.
+          (λ j. and-then ! (var ! 1 refl) (and-then ! (var ! 21 refl) (and-then ! (var ! 15 refl) (no-more !)))) (λ zs len e.
           land-last ! (from ! (stop !)) (init ! 6 refl (tt, tt)) $ exec ! C Λ En over (atRet En (Post (Remove i))) $
           forget ! 2 refl $ forget ! 4 refl $ forget ! 6 refl $ forget ! 16 refl $ group ! 2 $
           leaves (Remove i) (ends S (put-back S) 𝓤 H A κ q b o γ ys n (Remove i) W gn g zs len e))
