@@ -45,7 +45,7 @@ use Rattle.records.proofs.Shelf.{Shelf, row, Record}
 use Rattle.records.proofs.Stated.{Promise, promises}
 
 -- the array, what it is at first, and the machine value of that
-abbrev Numbers : RattleType
+abbrev pub Numbers : RattleType
 Numbers = Array u32 256
 
 abbrev zeros : List ℕ
@@ -95,10 +95,10 @@ module _ (S : Shelf) where
   abbrev pub promise : {M : Type 1} (𝓤 : URA M) → Promise 𝓤 ended
   promise 𝓤 κs a r e = fact 𝓤 (r ≡ gathered (S .number) (now (a .0)) (replicate 256 0))
 
-  abbrev clauses : {M : Type 1} (𝓤 : URA M) → Clauses 𝓤 ended
+  abbrev pub clauses : {M : Type 1} (𝓤 : URA M) → Clauses 𝓤 ended
   clauses 𝓤 = promises 𝓤 ended (promise 𝓤)
 
-  abbrev NumbersOf : {M : Type 1} (𝓤 : URA M) (H : Heap 𝓤) (A : Atoms 𝓤) → Contract 𝓤
+  abbrev pub NumbersOf : {M : Type 1} (𝓤 : URA M) (H : Heap 𝓤) (A : Atoms 𝓤) → Contract 𝓤
   NumbersOf 𝓤 H A = tripleOf 𝓤 H A signature (closing 𝓤 H A ended (clauses 𝓤))
 
   -- the list goes to `gather`

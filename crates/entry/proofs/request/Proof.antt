@@ -23,7 +23,7 @@ use ghost.Atoms.{Atoms}
 use contract.Monad.{Fun, fact, factI}
 use contract.Running.{givenOf, tables, tablesOf}
 use types.Kit.{Given, Item, Sq, runs, atRet, ‵, raw, ⋆, _⊛_, _$_, _∵_, !, qed, by, move, drop, use0, split, join, rewrite, fsplit, fjoin, suffices, frame, done}
-use types.Run.{look, init, store, forget, stop, from, of-opd, and-then, no-more, assigns, land, returns, enter, alloc1, alloc0, params1, pass1, pass0}
+use types.Run.{look, init, store, forget, stop, from, of-opd, and-then, no-more, assigns, land, land-last, first, exec, returns, enter, alloc1, alloc0, params1, pass1, pass0}
 use sound.WpLaws.{FmC, fmOf, WpFn-mono}
 use denote.RattleType.{RattleType, owns}
 use denote.Laws.{Is}
@@ -61,8 +61,12 @@ use Rattle.records.proofs.tags.TagLink as G
 use Rattle.entry.proofs.Told as Td
 use Rattle.entry.proofs.Told.Laws as Td′
 use Rattle.entry.proofs.Elements.{Each}
-use Rattle.entry.proofs.Lent.{Row, Mine, Numbers, PutBack, calls-numbers, calls-put-back}
+use Rattle.entry.proofs.Lent.{Mine, calls-numbers}
+use Rattle.records.proofs.Changing.{Changes, calls-change}
+use Rattle.records.proofs.Numbering.{Numbers, NumbersOf}
+use Rattle.records.proofs.PuttingBack.{put-back}
 use Rattle.records.proofs.Readings.{same-principals, same-tags}
+use Rattle.records.proofs.Shelf.{principals, tags}
 use Rattle.entry.proofs.OverRecords.{handedLinks, handedGrants, replied-is, links-are, grants-are, store-is, answer-is}
 use Rattle.records.proofs.principals.numbers_of.Symbol as principal-numbers-def
 use Rattle.records.proofs.principals.numbers_of.Symbol.{name as #principal-numbers}
@@ -175,7 +179,7 @@ module _ {M : Type 1} (𝓤 : URA M) (H : Heap 𝓤) (A : Atoms 𝓤) (W : Given
   reply-typed : (r : Replied) → Is Rp.the-row r (v ∷ []) → T (hasTy reply-type v) × WT v
   reply-typed r is = LL.lawful Rp.the-type Rp′.the-laws 𝓤 H A W .typed r (v ∷ []) is .0
 
-  numbers-typed : (ns : List ℕ) → Is Row ns (v ∷ []) → T (hasTy numbers v) × WT v
+  numbers-typed : (ns : List ℕ) → Is Numbers ns (v ∷ []) → T (hasTy numbers v) × WT v
   numbers-typed ns is = array-lawful 𝓤 H A W u32 (uint-lawful 𝓤 H A W w32) 256 .typed ns (v ∷ []) is .0
 
 -- ---- the walk
@@ -247,9 +251,9 @@ module _ {M : Type 1} (𝓤 : URA M) (H : Heap 𝓤) (A : Atoms 𝓤) (W : Given
   module _ (gs : Is S.the-row s (sv ∷ []))
       (gl : Room P.the-row (length (xl .now))) (gg : Room G.the-row (length (xg .now))) (gb : Room u8 (length (xb .now))) (gf : Room u8 (length (xf .now))) (ga : Room u8 (length (xa .now)))
       (C : Calls 𝓤 H) (Λ : Loops 𝓤 H) (fm : FmC 𝓤 H (W .laws) C)
-      (known-numbers : Triple 𝓤 (C #principal-numbers) (Numbers P.the-row principalNumber 𝓤 H A)) (known-tag-numbers : Triple 𝓤 (C #tag-numbers) (Numbers G.the-row tagNumber 𝓤 H A))
+      (known-numbers : Triple 𝓤 (C #principal-numbers) (NumbersOf principals 𝓤 H A)) (known-tag-numbers : Triple 𝓤 (C #tag-numbers) (NumbersOf tags 𝓤 H A))
       (known-over : Triple 𝓤 (C #over) (Over 𝓤 H A mem run))
-      (known-back : Triple 𝓤 (C #principal-back) (PutBack P.the-row principalLink 𝓤 H A)) (known-tag-back : Triple 𝓤 (C #tag-back) (PutBack G.the-row tagLink 𝓤 H A)) where
+      (known-back : Triple 𝓤 (C #principal-back) (Changes principals (put-back principals) 𝓤 H A)) (known-tag-back : Triple 𝓤 (C #tag-back) (Changes tags (put-back tags) 𝓤 H A)) where
     -- the body, whatever the types of the state, of the reply and of a change are: those of the program are long to compare
     module _ (ν : Sym) (state reply change : Ty) where
       abbrev told : Ty
@@ -284,11 +288,11 @@ module _ {M : Type 1} (𝓤 : URA M) (H : Heap 𝓤) (A : Atoms 𝓤) (W : Given
             -- [the links; their token; the grants; theirs; the store; its; the frame; its; the answer; its 9; _0 10; dies; _1 12; ..; _24 58; dies]
             assigns ! (pointer-of ! 14 refl refl) (from ! (stop !)) (init ! 30 refl (tt, tt)) $
             assigns ! (slice-of ! 30 14 refl refl refl refl) (from ! (stop !)) (init ! 32 refl (tt, (tt, (record { fits = gl .0 }, tt)))) $
-            calls-numbers ! fm P.the-row principalNumber known-numbers κ₀ q₀ xl gl (λ i j. and-then ! (at ! 32 refl refl) (no-more !)) (λ ns nv each numbered isn.
+            calls-numbers ! fm principals known-numbers κ₀ q₀ xl gl (λ i j. and-then ! (at ! 32 refl refl) (no-more !)) (λ ns nv each numbered isn.
             land ! (from ! (stop !)) (init ! 24 refl (numbers-typed 𝓤 H A W nv ns isn)) $
             assigns ! (pointer-of ! 16 refl refl) (from ! (stop !)) (init ! 34 refl (tt, tt)) $
             assigns ! (slice-of ! 34 16 refl refl refl refl) (from ! (stop !)) (init ! 36 refl (tt, (tt, (record { fits = gg .0 }, tt)))) $ move ! (2 ∷ 3 ∷ []) $
-            calls-numbers ! fm G.the-row tagNumber known-tag-numbers κ₁ q₁ xg gg (λ i j. and-then ! (at ! 36 refl refl) (no-more !)) (λ ms mv tag-each tag-numbered ism.
+            calls-numbers ! fm tags known-tag-numbers κ₁ q₁ xg gg (λ i j. and-then ! (at ! 36 refl refl) (no-more !)) (λ ms mv tag-each tag-numbered ism.
             land ! (from ! (stop !)) (init ! 26 refl (numbers-typed 𝓤 H A W mv ms ism)) $
             assigns ! (of-opd ! (reads ! 14 1 refl refl refl)) (from ! (stop !)) (init ! 38 refl (tt, record { fits = gl .0 })) $
             assigns ! (of-opd ! (reads ! 16 1 refl refl refl)) (from ! (stop !)) (init ! 40 refl (tt, record { fits = gg .0 })) $
@@ -304,16 +308,18 @@ module _ {M : Type 1} (𝓤 : URA M) (H : Heap 𝓤) (A : Atoms 𝓤) (W : Given
             land ! (from ! (stop !)) (init ! 27 refl (of-told tv t ist)) $ rewrite ! 27 (λ (u : Val). ‵ (fat fullShare told l₉ 0 u)) (parts t tv ist .are) refl $
             -- [the store's token; its end; the frame's; the answer's; its end; the grants; theirs; the links; theirs 8; _0 9; dies; ..]
             assigns ! (pointer-of ! 13 refl refl) (from ! (stop !)) (init ! 51 refl (tt, tt)) $
-            assigns ! (slice-of ! 51 13 refl refl refl refl) (from ! (stop !)) (init ! 53 refl (tt, (tt, (record { fits = gl .0 }, tt)))) $ move ! (7 ∷ 8 ∷ []) $
-            calls-put-back ! fm P.the-row principalLink known-back κ₀ q₀ xl (t .«used_links») (t .links) (parts t tv ist .links) (parts t tv ist .used-links-fit) (parts t tv ist .links-is)
+            assigns ! (slice-of ! 51 13 refl refl refl refl) (from ! (stop !)) (init ! 53 refl (tt, (tt, (record { fits = gl .0 }, tt)))) $ move ! (7 ∷ 8 ∷ []) $ first ! $ fsplit ! $ drop ! $ fsplit ! $
+            calls-change ! fm principals (put-back principals) known-back κ₀ q₀ (xl .ptr .0) (xl .ptr .1) (xl .name) (xl .now) (t .«used_links») (t .links)
+            gl (parts t tv ist .used-links-fit) (parts t tv ist .links-is)
             (λ i. (and-then ! (at ! 52 refl refl) (and-then ! (reads-parts ! 26 refl refl .1 .0) (and-then ! (reads-parts ! 26 refl refl .1 .1 .0) (no-more !))))) (λ ys same-links linked.
-            land ! (from ! (stop !)) (init ! 49 refl (tt, tt)) $
+            land-last ! (from ! (stop !)) (init ! 49 refl (tt, tt)) $ exec ! C Λ En mir′.t-17 (atRet En Post) $
             -- [the links' token; their end; the store's token; its end; the frame's; the answer's; its end; the grants 7; theirs 8; ..]
             assigns ! (pointer-of ! 15 refl refl) (from ! (stop !)) (init ! 55 refl (tt, tt)) $
-            assigns ! (slice-of ! 55 15 refl refl refl refl) (from ! (stop !)) (init ! 57 refl (tt, (tt, (record { fits = gg .0 }, tt)))) $ move ! (7 ∷ 8 ∷ []) $
-            calls-put-back ! fm G.the-row tagLink known-tag-back κ₁ q₁ xg (t .«used_grants») (t .grants) (parts t tv ist .grants) (parts t tv ist .used-grants-fit) (parts t tv ist .grants-is)
+            assigns ! (slice-of ! 55 15 refl refl refl refl) (from ! (stop !)) (init ! 57 refl (tt, (tt, (record { fits = gg .0 }, tt)))) $ move ! (7 ∷ 8 ∷ []) $ first ! $ fsplit ! $ drop ! $ fsplit ! $
+            calls-change ! fm tags (put-back tags) known-tag-back κ₁ q₁ (xg .ptr .0) (xg .ptr .1) (xg .name) (xg .now) (t .«used_grants») (t .grants)
+            gg (parts t tv ist .used-grants-fit) (parts t tv ist .grants-is)
             (λ i. (and-then ! (at ! 56 refl refl) (and-then ! (reads-parts ! 26 refl refl .1 .1 .1 .0) (and-then ! (reads-parts ! 26 refl refl .1 .1 .1 .1) (no-more !))))) (λ zs same-grants granted.
-            land ! (from ! (stop !)) (store ! 49 refl (tt, tt)) $
+            land-last ! (from ! (stop !)) (store ! 49 refl (tt, tt)) $ exec ! C Λ En mir′.t-20 (atRet En Post) $
             -- [the grants' token; their end; the links' token; their end; the store's token; its end; the frame's; the answer's; its end 8; _0 9; ..]
             assigns ! (of-opd ! (reads-parts ! 27 refl refl .0)) (from ! (stop !)) (init ! 9 refl (of-reply (parts t tv ist .replied) (t .replied) (parts t tv ist .replied-is))) $
             returns ! (look ! 9 refl) $ forget ! 9 refl $ forget ! 11 refl $ forget ! 13 refl $ forget ! 15 refl $ forget ! 17 refl $ forget ! 19 refl $ forget ! 21 refl $ forget ! 23 refl $
@@ -344,9 +350,9 @@ module _ {M : Type 1} (𝓤 : URA M) (H : Heap 𝓤) (A : Atoms 𝓤) (W : Given
         l₀ l₁ l₂ l₃ l₄ l₅ l₆ l₇ l₈ l₉ l₁₀ l₁₁ l₁₂ l₁₃ l₁₄ l₁₅ l₁₆ l₁₇ l₁₈ l₁₉ l₂₀ l₂₁ l₂₂ l₂₃ l₂₄)))))))))))))))))))))))))
 
 module _ {M : Type 1} (𝓤 : URA M) (H : Heap 𝓤) (A : Atoms 𝓤) (W : Given 𝓤 H A) (mem : Memory → SProp 𝓤) (run : Routine → Fun 𝓤) (𝓣 : Tables 𝓤 H)
-    (known-numbers : Triple 𝓤 (𝓣 .C #principal-numbers) (Numbers P.the-row principalNumber 𝓤 H A)) (known-tag-numbers : Triple 𝓤 (𝓣 .C #tag-numbers) (Numbers G.the-row tagNumber 𝓤 H A))
+    (known-numbers : Triple 𝓤 (𝓣 .C #principal-numbers) (NumbersOf principals 𝓤 H A)) (known-tag-numbers : Triple 𝓤 (𝓣 .C #tag-numbers) (NumbersOf tags 𝓤 H A))
     (known-over : Triple 𝓤 (𝓣 .C #over) (Over 𝓤 H A mem run))
-    (known-back : Triple 𝓤 (𝓣 .C #principal-back) (PutBack P.the-row principalLink 𝓤 H A)) (known-tag-back : Triple 𝓤 (𝓣 .C #tag-back) (PutBack G.the-row tagLink 𝓤 H A)) where
+    (known-back : Triple 𝓤 (𝓣 .C #principal-back) (Changes principals (put-back principals) 𝓤 H A)) (known-tag-back : Triple 𝓤 (𝓣 .C #tag-back) (Changes tags (put-back tags) 𝓤 H A)) where
   request-walks : Walks 𝓤 H A request.ended stayed (WpFn 𝓤 H (𝓣 .C) (𝓣 .Λ) code.function) (request.clauses 𝓤 H A mem run)
   request-walks =
       walked 𝓤 H A request.ended stayed (request.clauses 𝓤 H A mem run) (WpFn 𝓤 H (𝓣 .C) (𝓣 .Λ) code.function)
@@ -393,8 +399,8 @@ request-spec 𝓤 H 𝓜 𝓖 𝓡 =
     entered 𝓤 H (tripleOf 𝓤 H (𝓖 .A) request.signature (request.spec 𝓤 H (𝓖 .A) (𝓜 .mem) (𝓡 .run)))
     (tables 𝓤 H 𝓜 𝓡 code.env .C) (tables 𝓤 H 𝓜 𝓡 code.env .Λ) #request code.function (code.unfolded 𝓤 H 𝓜 𝓡)
     (request-meets 𝓤 H (𝓖 .A) (givenOf 𝓤 H 𝓜 𝓖) (𝓜 .mem) (𝓡 .run) (tablesOf 𝓤 H 𝓜 (tables 𝓤 H 𝓜 𝓡 code.env))
-    (cited 𝓤 H (Numbers P.the-row principalNumber 𝓤 H (𝓖 .A)) 𝓜 𝓡 code.env #principal-numbers principal-numbers-def.routine code.calls-records·principals·numbers-of (principal-numbers-thm.met 𝓤 H 𝓜 𝓖 𝓡))
-    (cited 𝓤 H (Numbers G.the-row tagNumber 𝓤 H (𝓖 .A)) 𝓜 𝓡 code.env #tag-numbers tag-numbers-def.routine code.calls-records·tags·numbers-of (tag-numbers-thm.met 𝓤 H 𝓜 𝓖 𝓡))
+    (cited 𝓤 H (NumbersOf principals 𝓤 H (𝓖 .A)) 𝓜 𝓡 code.env #principal-numbers principal-numbers-def.routine code.calls-records·principals·numbers-of (principal-numbers-thm.met 𝓤 H 𝓜 𝓖 𝓡))
+    (cited 𝓤 H (NumbersOf tags 𝓤 H (𝓖 .A)) 𝓜 𝓡 code.env #tag-numbers tag-numbers-def.routine code.calls-records·tags·numbers-of (tag-numbers-thm.met 𝓤 H 𝓜 𝓖 𝓡))
     (cited 𝓤 H (Over 𝓤 H (𝓖 .A) (𝓜 .mem) (𝓡 .run)) 𝓜 𝓡 code.env #over over-def.routine code.calls-entry·over-numbers (over-thm.met 𝓤 H 𝓜 𝓖 𝓡))
-    (cited 𝓤 H (PutBack P.the-row principalLink 𝓤 H (𝓖 .A)) 𝓜 𝓡 code.env #principal-back principal-back-def.routine code.calls-records·principals·put-back (principal-back-thm.met 𝓤 H 𝓜 𝓖 𝓡))
-    (cited 𝓤 H (PutBack G.the-row tagLink 𝓤 H (𝓖 .A)) 𝓜 𝓡 code.env #tag-back tag-back-def.routine code.calls-records·tags·put-back (tag-back-thm.met 𝓤 H 𝓜 𝓖 𝓡)))
+    (cited 𝓤 H (Changes principals (put-back principals) 𝓤 H (𝓖 .A)) 𝓜 𝓡 code.env #principal-back principal-back-def.routine code.calls-records·principals·put-back (principal-back-thm.met 𝓤 H 𝓜 𝓖 𝓡))
+    (cited 𝓤 H (Changes tags (put-back tags) 𝓤 H (𝓖 .A)) 𝓜 𝓡 code.env #tag-back tag-back-def.routine code.calls-records·tags·put-back (tag-back-thm.met 𝓤 H 𝓜 𝓖 𝓡)))

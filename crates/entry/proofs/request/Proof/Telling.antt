@@ -46,7 +46,7 @@ use Rattle.entry.specs.Entry.{wholePlaces, overNumbers}
 use Rattle.entry.proofs.Told as Td
 use Rattle.entry.proofs.Told.Laws as Td′
 use Rattle.entry.proofs.over_numbers as over
-use Rattle.entry.proofs.Lent.{Row}
+use Rattle.records.proofs.Numbering.{Numbers}
 use Rattle.entry.proofs.request.Proof.Places.{reads}
 
 -- ---- the parts of what is told
@@ -157,15 +157,15 @@ module _ (κ₀ : Lft) (q₀ : Share) (x : Bytes) (κ₁ : Lft) (q₁ : Share) (
         tt,
       )
 
-      asks-over : Given 𝓤 H A → Is S.the-row s (sv ∷ []) → n < 2 ^ 64 → Is Row ns (nv ∷ []) → m < 2 ^ 64 → Is Row ms (mv ∷ []) → ent 𝓤 (⋆ 𝓤 H A (before 𝓤)) (Over 𝓤 H A mem run .pre to-over)
+      asks-over : Given 𝓤 H A → Is S.the-row s (sv ∷ []) → n < 2 ^ 64 → Is Numbers ns (nv ∷ []) → m < 2 ^ 64 → Is Numbers ms (mv ∷ []) → ent 𝓤 (⋆ 𝓤 H A (before 𝓤)) (Over 𝓤 H A mem run .pre to-over)
       asks-over W gs gn gns gm gms =
           qed W (before 𝓤) ∵
           -- the tokens
           nothing ! $ move ! (6 ∷ 0 ∷ []) $ join ! $ move ! (4 ∷ 0 ∷ []) $ join ! $ move ! (2 ∷ 0 ∷ []) $ join ! $
           -- what the parameters own
           nothing ! $ move ! (4 ∷ 0 ∷ []) $ fjoin ! $ move ! (3 ∷ 0 ∷ []) $ fjoin ! $ move ! (2 ∷ 0 ∷ []) $ fjoin ! $
-          owned ! Row (Is Row) (array-makes 𝓤 H A W u32 (uint-makes 𝓤 H A W w32) 256) ms _ gms $ fjoin ! $ owned ! usize (Is usize) (uint-makes 𝓤 H A W w64) m _ (refl, gm) $ fjoin ! $
-          owned ! Row (Is Row) (array-makes 𝓤 H A W u32 (uint-makes 𝓤 H A W w32) 256) ns _ gns $ fjoin ! $ owned ! usize (Is usize) (uint-makes 𝓤 H A W w64) n _ (refl, gn) $ fjoin ! $
+          owned ! Numbers (Is Numbers) (array-makes 𝓤 H A W u32 (uint-makes 𝓤 H A W w32) 256) ms _ gms $ fjoin ! $ owned ! usize (Is usize) (uint-makes 𝓤 H A W w64) m _ (refl, gm) $ fjoin ! $
+          owned ! Numbers (Is Numbers) (array-makes 𝓤 H A W u32 (uint-makes 𝓤 H A W w32) 256) ns _ gns $ fjoin ! $ owned ! usize (Is usize) (uint-makes 𝓤 H A W w64) n _ (refl, gn) $ fjoin ! $
           owned ! S.the-row (Is S.the-row) (LL.makes S.the-type S′.the-plain 𝓤 H A) s _ gs $ fjoin ! $
           move ! (1 ∷ 0 ∷ []) $ join ! $ nothing ! $ move ! (1 ∷ 0 ∷ []) $ done !
 
@@ -173,7 +173,7 @@ module _ {M : Type 1} {𝓤 : URA M} {H : Heap 𝓤} {A : Atoms 𝓤} {K : Type 
     {E : Env 𝓤 H} {C : Calls 𝓤 H} {Λ : Loops 𝓤 H} {p : Post 𝓤 H} {f : Name} {xs : List Operand} {d : Place} {rest : Body} where
   pub calls-over : K → FmC 𝓤 H (W .laws) C → (mem : Memory → SProp 𝓤) (run : Routine → Fun 𝓤) → Triple 𝓤 (C f) (Over 𝓤 H A mem run)
       → (κ₀ : Lft) (q₀ : Share) (x : Bytes) (κ₁ : Lft) (q₁ : Share) (y : Bytes) (κ₂ : Lft) (q₂ : Share) (z : Bytes) (s : State) (n : ℕ) (ns : List ℕ) (m : ℕ) (ms : List ℕ) (sv nv mv : Val)
-      → Is S.the-row s (sv ∷ []) → n < 2 ^ 64 → Is Row ns (nv ∷ []) → m < 2 ^ 64 → Is Row ms (mv ∷ [])
+      → Is S.the-row s (sv ∷ []) → n < 2 ^ 64 → Is Numbers ns (nv ∷ []) → m < 2 ^ 64 → Is Numbers ms (mv ∷ [])
       → ((i : Item 𝓤)
       → Opds K W (i ∷ Γ) E xs (sv ∷ vint w64 n ∷ nv ∷ vint w64 m ∷ mv ∷ sliceVal (x .ptr) (length (x .now)) ∷ sliceVal (y .ptr) (length (y .now)) ∷ sliceVal (z .ptr) (length (z .now)) ∷ []))
       → ((t : Told) (v : Val) (b a : List ℕ) → Is Td.the-row t (v ∷ []) → Tells s n ns m ms (x .now) (y .now) (z .now) t
