@@ -11,8 +11,8 @@ use Rattle.numbers.specs.Labels.{namesOnlyMade}
 use Rattle.numbers.specs.Numbers.{mostObjects, mostQueued}
 use Rattle.numbers.proofs.Bools.{and-left, and-right, by-test}
 use Rattle.store.specs.Store.{placeAt}
+use Rattle.tables.specs.Rows.{isFree, heldIn, isLocked, whatOf, objectRow}
 use Rattle.tables.specs.Things.{noObject}
-use Rattle.tables.specs.Free.{isFree}
 use Rattle.tables.specs.declared.rows.What.{What}
 use Rattle.tables.specs.declared.rows.What.the-variants as what
 use Rattle.frames.specs.declared.requests.Span.{Span}
@@ -28,7 +28,7 @@ use Rattle.outcomes.specs.declared.Outcome.{Outcome}
 use Rattle.outcomes.specs.declared.StoreChange.the-variants as store
 use Rattle.outcomes.specs.declared.RowChange.the-variants as rows
 use Rattle.outcomes.specs.Outcomes.{rowsChanged, refused}
-use Rattle.decide_objects.specs.Objects.{objectChanged, emptyOf, heldIn, isLocked, nowIs, newObject, put, get, lock, decideObject}
+use Rattle.decide_objects.specs.Objects.{objectChanged, emptyOf, nowIs, newObject, put, get, lock, decideObject}
 
 -- what is a cell is nothing else
 is-cell : (w : What) → isCell w ≡ true → w ≡ what.Cell
@@ -54,7 +54,7 @@ is-lock (what.Lock locked) e = refl
 module _ (s : Sight) where
   -- what the object is that the request names
   abbrev is : What
-  is = s .object .what
+  is = whatOf (s .object)
 
   pub data ObjectComes : ObjectRequest → Outcome → Type 0 where
     stops : {r : ObjectRequest} (x : Refusal) → ObjectComes r (refused x)
@@ -63,7 +63,7 @@ module _ (s : Sight) where
         namesOnlyMade (l .secrecy) (s .tags) ≡ true →
         namesOnlyMade (l .integrity) (s .tags) ≡ true →
         s .free < mostObjects →
-        ObjectComes (New k l) (rowsChanged (Value (s .free)) (rows.Object (s .free) (record { what = emptyOf k; labels = l })))
+        ObjectComes (New k l) (rowsChanged (Value (s .free)) (rows.Object (s .free) (objectRow (emptyOf k) l)))
     deletes : {o : Object} → isFree is ≡ false → ObjectComes (Delete o) (objectChanged Done (store.Free (placeAt (o .0) 0)) (rows.Object (o .0) noObject))
     reads : {o : Object} → is ≡ what.Cell → ObjectComes (ReadCell o) (rowsChanged (Kept (placeAt (o .0) 0)) rows.Keep)
     writes : {o : Object} {m : Span} → is ≡ what.Cell → ObjectComes (WriteCell o m) (objectChanged Done (store.Put (placeAt (o .0) 0) m) rows.Keep)

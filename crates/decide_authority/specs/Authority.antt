@@ -17,6 +17,7 @@ use Rattle.links.specs.declared.authority.Lineage.the-variants as lineage
 use Rattle.links.specs.Links.{linksIn, linkNumber, findIn, stands}
 use Rattle.links.specs.Authority.{actsFor, countedNode, linksOf}
 use Rattle.links.specs.Cycles.{closesCycle}
+use Rattle.tables.specs.Rows.{tagRow}
 use Rattle.tables.specs.declared.rows.Rank.{Rank}
 use Rattle.tables.specs.declared.rows.Rank.the-variants.{Supertag, SubtagOf}
 use Rattle.frames.specs.declared.requests.AuthorityRequest.{AuthorityRequest}
@@ -97,7 +98,7 @@ module _ (s : Sight) where
 
   -- the next number, and the caller as its maker
   abbrev pub tagAdded : Rank → Outcome
-  tagAdded rank = rowsChanged (Value (s .tags)) (rows.NewTag (record { root = caller; rank = rank }))
+  tagAdded rank = rowsChanged (Value (s .tags)) (rows.NewTag (tagRow caller rank))
 
   -- "64 tags 7"
   unfoldable pub tagIfRoom : Rank → Outcome

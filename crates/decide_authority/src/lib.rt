@@ -1,8 +1,6 @@
 // Kinds 01 to 09: new principals and tags, who acts for whom, leaves given and withdrawn. Each function tests
 // what its row of 01 refuses, in the row's order.
 ghost use mathlib.Core.Path.{_≡_};
-ghost use Prim.Native.Nat.{_≤_};
-ghost use Rattle.links.specs.Authority.{actsFor};
 ghost use Rattle.decide_authority.specs.Authority.{
   isPublic,
   ownOf,
@@ -46,7 +44,7 @@ use outcomes::rows_changed;
 use outcomes::told;
 use sight::Sight;
 use tables::rows::Rank;
-use tables::rows::TagRow;
+use tables::says::tag_row_of;
 
 fn own_of(l: Lineage) -> Rooted
     ensures { λ r. ⌜ r ≡ ownOf l ⌝ }
@@ -201,7 +199,7 @@ fn add_tag(s: Sight, rank: Rank) -> Outcome
     }
     let caller = s.caller;
     let root = caller.principal;
-    let row = TagRow { root, rank };
+    let row = tag_row_of(root, rank);
     rows_changed(Answer::Value(n as u8), RowChange::NewTag(row))
 }
 

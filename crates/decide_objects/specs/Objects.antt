@@ -1,11 +1,12 @@
 -- Kinds 12 to 1B (01, "Requests"): their rows' refusals in order, and what is done. s is what the request sees. Assumes nothing.
-use mathlib.Core.Bool.{Bool, true, false, cond}
+use mathlib.Core.Bool.{true, false, cond}
 use Prim.Native.Nat.{ℕ, _+_, _-_}
 use lib.Dec.{leb, ltb}
 use Rattle.numbers.specs.declared.Object.{Object}
 use Rattle.numbers.specs.declared.flow.LabelPair.{LabelPair}
 use Rattle.numbers.specs.Numbers.{mostObjects, mostQueued}
 use Rattle.store.specs.Store.{placeAt}
+use Rattle.tables.specs.Rows.{heldIn, isLocked, whatOf, objectRow}
 use Rattle.tables.specs.Things.{noObject}
 use Rattle.tables.specs.declared.rows.What.{What}
 use Rattle.tables.specs.declared.rows.What.the-variants as what
@@ -38,32 +39,20 @@ emptyOf kind.Cell = what.Cell
 emptyOf kind.Queue = what.Queue 0
 emptyOf kind.Lock = what.Lock false
 
--- how many messages a queue holds, and whether a lock is held
-abbrev pub heldIn : What → ℕ
-heldIn what.Free = 0
-heldIn what.Cell = 0
-heldIn (what.Queue held) = held
-heldIn (what.Lock locked) = 0
-
-abbrev pub isLocked : What → Bool
-isLocked what.Free = false
-isLocked what.Cell = false
-isLocked (what.Queue held) = false
-isLocked (what.Lock locked) = locked
-
 module _ (s : Sight) where
+  -- how many messages the object holds
   abbrev pub held : ℕ
-  held = heldIn (s .object .what)
+  held = heldIn (whatOf (s .object))
 
   -- the object's row, with its labels as they are
   abbrev pub nowIs : Object → What → RowChange
-  nowIs o w = rows.Object (o .0) (record { what = w; labels = s .object .labels })
+  nowIs o w = rows.Object (o .0) (objectRow w (s .object .labels))
 
   -- 12: "64 objects 7"; "empty or unlocked; answers number"
   unfoldable pub newObject : ObjectKind → LabelPair → Outcome
   newObject k l =
       cond (leb mostObjects (s .free)) (refused Full)
-      (rowsChanged (Value (s .free)) (rows.Object (s .free) (record { what = emptyOf k; labels = l })))
+      (rowsChanged (Value (s .free)) (rows.Object (s .free) (objectRow (emptyOf k) l)))
 
   -- 16: "8 held 7"; "appended"
   unfoldable pub put : Object → Span → Outcome
@@ -79,7 +68,7 @@ module _ (s : Sight) where
 
   -- 18: "held 8"; "held"
   unfoldable pub lock : Object → Outcome
-  lock o = cond (isLocked (s .object .what)) (refused Empty) (rowsChanged Done (nowIs o (what.Lock true)))
+  lock o = cond (isLocked (whatOf (s .object))) (refused Empty) (rowsChanged Done (nowIs o (what.Lock true)))
 
   abbrev pub decideObject : ObjectRequest → Outcome
   decideObject (New k l) = newObject k l

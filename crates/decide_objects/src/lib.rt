@@ -4,8 +4,7 @@ ghost use mathlib.Core.Path.{_≡_};
 ghost use Rattle.decide_objects.specs.Objects.{
   objectChanged,
   emptyOf,
-  heldIn,
-  isLocked,
+  held,
   nowIs,
   newObject,
   put,
@@ -32,9 +31,12 @@ use outcomes::refused;
 use outcomes::rows_changed;
 use sight::Sight;
 use store::place_at;
-use tables::rows::ObjectRow;
 use tables::rows::What;
 use tables::rows::no_object;
+use tables::says::held_in;
+use tables::says::is_locked;
+use tables::says::object_row_of;
+use tables::says::what_of;
 
 // The store and the rows change, and neither list does.
 fn object_changed(answer: Answer, store: StoreChange, rows: RowChange) -> Outcome
@@ -60,36 +62,13 @@ fn empty_of(k: ObjectKind) -> What
     }
 }
 
-// How many messages a queue holds.
-fn held_in(what: What) -> usize
-    ensures { λ r. ⌜ r ≡ heldIn what ⌝ }
-{
-    match what {
-        What::Free => 0,
-        What::Cell => 0,
-        What::Queue(held) => held,
-        What::Lock(_) => 0,
-    }
-}
-
-fn is_locked(what: What) -> bool
-    ensures { λ r. ⌜ r ≡ isLocked what ⌝ }
-{
-    match what {
-        What::Free => false,
-        What::Cell => false,
-        What::Queue(_) => false,
-        What::Lock(locked) => locked,
-    }
-}
-
 // The object's row, with its labels as they are.
 fn now_is(s: Sight, o: Object, what: What) -> RowChange
     ensures { λ r. ⌜ r ≡ nowIs s o what ⌝ }
 {
     let row = s.object;
     let labels = row.labels;
-    RowChange::Object(o.0 as usize, ObjectRow { what, labels })
+    RowChange::Object(o.0 as usize, object_row_of(what, labels))
 }
 
 // 12
@@ -100,19 +79,14 @@ fn new_object(s: Sight, k: ObjectKind, labels: LabelPair) -> Outcome
     if OBJECTS <= n {
         return refused(Refusal::Full);
     }
-    let what = empty_of(k);
-    rows_changed(
-        Answer::Value(n as u8),
-        RowChange::Object(n, ObjectRow { what, labels }),
-    )
+    let row = object_row_of(empty_of(k), labels);
+    rows_changed(Answer::Value(n as u8), RowChange::Object(n, row))
 }
 
 fn held_of(s: Sight) -> usize
-    ensures { λ r. ⌜ r ≡ heldIn (s .object .what) ⌝ }
+    ensures { λ r. ⌜ r ≡ held s ⌝ }
 {
-    let row = s.object;
-    let what = row.what;
-    held_in(what)
+    held_in(what_of(s.object))
 }
 
 // 16
@@ -151,9 +125,7 @@ fn decide_get(s: Sight, o: Object) -> Outcome
 fn decide_lock(s: Sight, o: Object) -> Outcome
     ensures { λ r. ⌜ r ≡ lock s o ⌝ }
 {
-    let row = s.object;
-    let what = row.what;
-    if is_locked(what) {
+    if is_locked(what_of(s.object)) {
         return refused(Refusal::Empty);
     }
     rows_changed(Answer::Done, now_is(s, o, What::Lock(true)))

@@ -15,11 +15,12 @@ use Rattle.numbers.specs.Numbers.{longestMessage, mostObjects, mostQueued}
 use Rattle.numbers.proofs.Bools.{either}
 use Rattle.store.specs.Store.{placeSize, objectSize, storeSize, placeAt, byteAt, put, tookFirst, cleared}
 use Rattle.store.proofs.StoreLaws.{put-length, put-first, put-else, put-rest, took-length, took-byte, took-last, took-else, cleared-length, cleared-else, zeros-is, zeros-cleared}
+use Rattle.tables.specs.Rows.{isFree, whatOf, objectRow}
 use Rattle.tables.specs.Things.{noObject, objectAt}
-use Rattle.tables.specs.Free.{isFree}
 use Rattle.tables.specs.declared.rows.ObjectRow.{ObjectRow}
 use Rattle.tables.specs.declared.rows.What.{What}
 use Rattle.tables.specs.declared.rows.What.the-variants.{Free, Cell, Queue, Lock}
+use Rattle.tables.proofs.Said.{what-said, no-object-says}
 use Rattle.store_rules.specs.StoreRules.{placesUsed}
 use Rattle.store_rules.proofs.RuleLaws.{StoreHolds}
 
@@ -91,7 +92,7 @@ free-none (Lock locked) e = cc
 
 module _ {s : List ℕ} {rows : List ObjectRow} (holds : StoreHolds s rows) where
   -- the rules of the store, of one object
-  stored : (o : ℕ) → o < mostObjects → ObjectStored s o (placesUsed (objectAt rows o .what))
+  stored : (o : ℕ) → o < mostObjects → ObjectStored s o (placesUsed (whatOf (objectAt rows o)))
   stored o low =
       record {
         used = λ k u few. record { limit = holds .limits o k low u; rest = λ i. holds .rests o k i low u };
@@ -130,7 +131,7 @@ module _ (s : List ℕ) {o : ℕ} (whole : length s ≡ storeSize) (low : o < mo
 module _ {s : List ℕ} {rows : List ObjectRow} {o : ℕ} (size : length rows ≡ mostObjects) (whole : length s ≡ storeSize) (holds : StoreHolds s rows) (low : o < mostObjects) where
   -- they obey their rules if the object does by its new row, and the bytes of all others are as they were
   changed :
-      (s2 : List ℕ) (r : ObjectRow) → ObjectStored s2 o (placesUsed (r .what))
+      (s2 : List ℕ) (r : ObjectRow) → ObjectStored s2 o (placesUsed (whatOf r))
       → ((i : ℕ) → (i < placeAt o 0) ⊎ (placeAt o 0 + objectSize ≤ i) → byteAt s2 i ≡ byteAt s i) → StoreHolds s2 (set rows o r)
   changed s2 r own else =
       record {
@@ -152,32 +153,32 @@ module _ {s : List ℕ} {rows : List ObjectRow} {o : ℕ} (size : length rows �
 
       -- how many places an object uses now
       uses : ℕ → ℕ
-      uses p = placesUsed (objectAt (set rows o r) p .what)
+      uses p = placesUsed (whatOf (objectAt (set rows o r) p))
 
       -- the unused bytes of the object itself
       same : (p i : ℕ) → o ≡ p → uses p * placeSize ≤ i → i < objectSize → byteAt s2 (p * objectSize + i) ≡ 0
       same p i e a b =
           let x : p * objectSize + i ≡ placeAt o 0 + i = omega arith in
-          let n : uses p ≡ placesUsed (r .what) = ap uses (sym e) ∙ ap (λ (x : ObjectRow). placesUsed (x .what)) (getD-set-same rows o r noObject (omega arith)) in
+          let n : uses p ≡ placesUsed (whatOf r) = ap uses (sym e) ∙ ap (λ (x : ObjectRow). placesUsed (whatOf x)) (getD-set-same rows o r noObject (omega arith)) in
           ap (byteAt s2) x ∙ own .unused i (omega arith) b
 
       -- and those of another
       other : (p i : ℕ) → p < mostObjects → (p < o) ⊎ (o + 1 ≤ p) → uses p * placeSize ≤ i → i < objectSize → byteAt s2 (p * objectSize + i) ≡ 0
       other p i h w a b =
-          let n : uses p ≡ placesUsed (objectAt rows p .what) =
-          ap (λ (x : ObjectRow). placesUsed (x .what)) (getD-set-other rows o p r noObject (λ e. ⊎-elim (λ c. omega arith) (λ c. omega arith) w)) in
+          let n : uses p ≡ placesUsed (whatOf (objectAt rows p)) =
+          ap (λ (x : ObjectRow). placesUsed (whatOf x)) (getD-set-other rows o p r noObject (λ e. ⊎-elim (λ c. omega arith) (λ c. omega arith) w)) in
           else (p * objectSize + i) (⊎-elim (λ c. inl (omega arith)) (λ c. inr (omega arith)) w) ∙ holds .unused p i h (omega arith) b
 
   -- the store is as it was, and the object uses as many places or more
-  same-store : (r : ObjectRow) → placesUsed (objectAt rows o .what) ≤ placesUsed (r .what) → StoreHolds s (set rows o r)
+  same-store : (r : ObjectRow) → placesUsed (whatOf (objectAt rows o)) ≤ placesUsed (whatOf r) → StoreHolds s (set rows o r)
   same-store r more =
       let own = stored holds o low in
       changed s r (record { used = λ k u. each-place own k; unused = λ i f. own .unused i (omega arith) }) (λ i w. refl)
 
   -- a message is put at one of its places, and the object uses that one and as many as before or more
   message-put :
-      (m : List ℕ) (k : ℕ) (r : ObjectRow) → length m ≤ longestMessage → k < mostQueued → placesUsed (objectAt rows o .what) ≤ placesUsed (r .what)
-      → k < placesUsed (r .what) → StoreHolds (put s (placeAt o k) m) (set rows o r)
+      (m : List ℕ) (k : ℕ) (r : ObjectRow) → length m ≤ longestMessage → k < mostQueued → placesUsed (whatOf (objectAt rows o)) ≤ placesUsed (whatOf r)
+      → k < placesUsed (whatOf r) → StoreHolds (put s (placeAt o k) m) (set rows o r)
   message-put m k r short few more new =
       changed (put s (placeAt o k) m) r
       (record {
@@ -201,8 +202,8 @@ module _ {s : List ℕ} {rows : List ObjectRow} {o : ℕ} (size : length rows �
           (λ i c. kept (placeAt o j + i) (⊎-elim (λ d. inl (omega arith)) (λ d. inr (omega arith)) w))
 
   -- 12: a new object takes a free number, whose places are zero: a new cell has the empty message
-  pub store-new : (x : What) (l : LabelPair) → isFree (objectAt rows o .what) ≡ true → StoreHolds s (set rows o (record { what = x; labels = l }))
-  store-new x l free = same-store (record { what = x; labels = l }) (omega (arith, free-none (objectAt rows o .what) free))
+  pub store-new : (x : What) (l : LabelPair) → isFree (whatOf (objectAt rows o)) ≡ true → StoreHolds s (set rows o (objectRow x l))
+  store-new x l free = same-store (objectRow x l) (omega (arith, free-none (whatOf (objectAt rows o)) free))
 
   -- 13: an object is deleted
   pub store-freed : StoreHolds (cleared s (placeAt o 0) objectSize) (set rows o noObject)
@@ -210,34 +211,38 @@ module _ {s : List ℕ} {rows : List ObjectRow} {o : ℕ} (size : length rows �
       let at = placeAt o 0 in
       let room : at + objectSize ≤ length s = omega arith in
       changed (cleared s at objectSize) noObject
-      (record { used = λ k u. absurd (omega arith); unused = λ i f. zeros-is (cleared s at objectSize) at objectSize .0 (zeros-cleared s at objectSize room) i })
+      (record { used = λ k u. absurd (omega (arith, ap placesUsed no-object-says)); unused = λ i f. zeros-is (cleared s at objectSize) at objectSize .0 (zeros-cleared s at objectSize room) i })
       (λ i. cleared-else s at objectSize i room)
 
   -- 15: a message is written into a cell; the rows stay
-  pub store-written : (m : List ℕ) → objectAt rows o .what ≡ Cell → length m ≤ longestMessage → StoreHolds (put s (placeAt o 0) m) rows
+  pub store-written : (m : List ℕ) → whatOf (objectAt rows o) ≡ Cell → length m ≤ longestMessage → StoreHolds (put s (placeAt o 0) m) rows
   store-written m is short =
       let r = objectAt rows o in
-      let n : placesUsed (r .what) ≡ 1 = ap placesUsed is in
+      let n : placesUsed (whatOf r) ≡ 1 = ap placesUsed is in
       subst (StoreHolds (put s (placeAt o 0) m)) (set-getD rows o noObject) (message-put m 0 r short (omega arith) (omega arith) (omega arith))
 
   -- 16: a message is put into a queue
   pub store-put :
-      (m : List ℕ) (l : LabelPair) {held : ℕ} → objectAt rows o .what ≡ Queue held → held < mostQueued → length m ≤ longestMessage
-      → StoreHolds (put s (placeAt o held) m) (set rows o (record { what = Queue (held + 1); labels = l }))
+      (m : List ℕ) (l : LabelPair) {held : ℕ} → whatOf (objectAt rows o) ≡ Queue held → held < mostQueued → length m ≤ longestMessage
+      → StoreHolds (put s (placeAt o held) m) (set rows o (objectRow (Queue (held + 1)) l))
   store-put m l {held} is room short =
-      let n : placesUsed (objectAt rows o .what) ≡ held = ap placesUsed is in
-      message-put m held (record { what = Queue (held + 1); labels = l }) short room (omega arith) (omega arith)
+      let n : placesUsed (whatOf (objectAt rows o)) ≡ held = ap placesUsed is in
+      let r : ObjectRow = objectRow (Queue (held + 1)) l in
+      let more : placesUsed (whatOf r) ≡ held + 1 = ap placesUsed (what-said (Queue (held + 1)) l) in
+      message-put m held r short room (omega arith) (omega arith)
 
   -- 17: a queue's first message is taken
   pub store-taken :
-      (l : LabelPair) {held : ℕ} → objectAt rows o .what ≡ Queue held → held ≤ mostQueued
-      → StoreHolds (tookFirst s (placeAt o 0)) (set rows o (record { what = Queue (held - 1); labels = l }))
+      (l : LabelPair) {held : ℕ} → whatOf (objectAt rows o) ≡ Queue held → held ≤ mostQueued
+      → StoreHolds (tookFirst s (placeAt o 0)) (set rows o (objectRow (Queue (held - 1)) l))
   store-taken l {held} is fits =
       let at = placeAt o 0 in
       let room : at + objectSize ≤ length s = omega arith in
       let own = stored holds o low in
-      let n : placesUsed (objectAt rows o .what) ≡ held = ap placesUsed is in
-      changed (tookFirst s at) (record { what = Queue (held - 1); labels = l })
+      let n : placesUsed (whatOf (objectAt rows o)) ≡ held = ap placesUsed is in
+      let r : ObjectRow = objectRow (Queue (held - 1)) l in
+      let fewer : placesUsed (whatOf r) ≡ held - 1 = ap placesUsed (what-said (Queue (held - 1)) l) in
+      changed (tookFirst s at) r
       (record {
         used = λ k u few.
             place-same (tookFirst s at) (placeAt o k) (each-place own (k + 1) (omega arith))
@@ -256,5 +261,5 @@ module _ {s : List ℕ} {rows : List ObjectRow} {o : ℕ} (size : length rows �
       (λ i. took-else s at i room)
 
   -- 18, 19: a lock, which uses no place, is locked or unlocked
-  pub store-locked : (b : Bool) (l : LabelPair) {a : Bool} → objectAt rows o .what ≡ Lock a → StoreHolds s (set rows o (record { what = Lock b; labels = l }))
-  store-locked b l is = same-store (record { what = Lock b; labels = l }) (omega (arith, ap placesUsed is))
+  pub store-locked : (b : Bool) (l : LabelPair) {a : Bool} → whatOf (objectAt rows o) ≡ Lock a → StoreHolds s (set rows o (objectRow (Lock b) l))
+  store-locked b l is = same-store (objectRow (Lock b) l) (omega (arith, ap placesUsed is))

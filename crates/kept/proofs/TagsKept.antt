@@ -11,13 +11,16 @@ use lib.Dec.{ltb}
 use lib.ListN.{length, set}
 use lib.Seq.{getD-set-same, getD-set-other}
 use Rattle.numbers.specs.Numbers.{public, mostTags}
+use Rattle.numbers.specs.declared.Principal.{Principal}
 use Rattle.numbers.specs.declared.Tag.{Tag}
 use Rattle.numbers.proofs.Bools.{and-left}
+use Rattle.tables.specs.Rows.{rankOf, tagRow}
 use Rattle.tables.specs.declared.rows.TagRow.{TagRow}
 use Rattle.tables.specs.declared.rows.Rank.{Rank}
 use Rattle.tables.specs.declared.rows.Rank.the-variants.{Supertag, SubtagOf}
 use Rattle.tables.specs.Things.{noTag, tagAt}
-use Rattle.row_rules.specs.RowRules.{isSupertag, supertagMade, rankHolds}
+use Rattle.tables.proofs.Said.{rank-said}
+use Rattle.row_rules.specs.RowRules.{isSupertag, tagInLimits, supertagUnused, supertagMade, rankHolds}
 use Rattle.row_rules.proofs.RuleLaws.{TagsHold}
 
 -- more principals are made
@@ -26,16 +29,18 @@ pub tags-more :
 tags-more w h =
     record {
       limit = w .limit;
+      limits = w .limits;
       roots = λ i l. omega (arith, w .roots i l);
       supertags = w .supertags;
       public-roots = w .public-roots;
       ranks = w .ranks;
+      supertags-unused = w .supertags-unused;
       unused = w .unused;
     }
 
 -- a supertag is an earlier tag
 pub supertag-earlier : (rows : List TagRow) (i : ℕ) (u : Tag) → rankHolds rows i (SubtagOf u) ≡ true → u .0 < i
-supertag-earlier rows i u e = ltb-true (u .0) i (and-left (ltb (u .0) i) (isSupertag (tagAt rows (u .0) .rank)) e)
+supertag-earlier rows i u e = ltb-true (u .0) i (and-left (ltb (u .0) i) (isSupertag (rankOf (tagAt rows (u .0)))) e)
 
 -- the supertag of tag i is an earlier tag, and so made where i is at most the count
 rank-made : (rows : List TagRow) (i n : ℕ) (k : Rank) → i ≤ n → rankHolds rows i k ≡ true → supertagMade n k ≡ true
@@ -59,23 +64,36 @@ module _ (tags : ℕ) (rows : List TagRow) (row : TagRow) where
       (λ (l : i < tags). rw (getD-set-other rows tags i row noTag (λ q. omega arith)) (old i l))
       (eq-or-lt-of-le (omega arith))
 
+-- the numbers of a row that was made for a rank
+built-holds : (root : Principal) (k : Rank) → (tagInLimits (tagRow root k) ≡ true) × (supertagUnused (tagRow root k) ≡ true)
+built-holds root Supertag = (refl, refl)
+built-holds root (SubtagOf t) = (refl, refl)
+
 -- 05, 06: a tag more, at the next number
 pub tag-added :
-    {principals tags : ℕ} {rows : List TagRow} (row : TagRow) → TagsHold principals tags rows → length rows ≡ mostTags → tags < mostTags
-    → row .root .0 < principals → (row .root .0 ≡ public → ⊥) → rankHolds rows tags (row .rank) ≡ true
-    → TagsHold principals (tags + 1) (set rows tags row)
-tag-added {principals} {tags} {rows} row w long room root not-public rank =
+    {principals tags : ℕ} {rows : List TagRow} (root : Principal) (k : Rank) → TagsHold principals tags rows → length rows ≡ mostTags → tags < mostTags
+    → root .0 < principals → (root .0 ≡ public → ⊥) → rankHolds rows tags k ≡ true → TagsHold principals (tags + 1) (set rows tags (tagRow root k))
+tag-added {principals} {tags} {rows} root k w long room made not-public rank =
+    let row = tagRow root k in
+    let new = set rows tags row in
     let each =
     tags-each tags rows row
-    (λ i r. (r .root .0 < principals) × (r .root .0 ≡ public → ⊥) × (rankHolds (set rows tags row) i (r .rank) ≡ true))
+    (λ i r.
+    ((tagInLimits r ≡ true) × (supertagUnused r ≡ true))
+    × ((r .root .0 < principals) × ((r .root .0 ≡ public → ⊥) × (rankHolds new i (rankOf r) ≡ true))))
     (omega arith)
-    (root, not-public, rank-kept tags rows row tags (row .rank) (omega arith) rank)
-    (λ i l. (w .roots i l, w .public-roots i l, rank-kept tags rows row i (tagAt rows i .rank) (omega arith) (w .ranks i l))) in
+    (built-holds root k, (made, (not-public, rw rank-said (rank-kept tags rows row tags k (omega arith) rank))))
+    (λ i l. (
+      (w .limits i l, w .supertags-unused i l),
+      (w .roots i l, (w .public-roots i l, rank-kept tags rows row i (rankOf (tagAt rows i)) (omega arith) (w .ranks i l))),
+    )) in
     record {
       limit = omega arith;
-      roots = λ i l. each i l .0;
-      supertags = λ i l. rank-made (set rows tags row) i (tags + 1) (tagAt (set rows tags row) i .rank) (omega arith) (each i l .2);
-      public-roots = λ i l. each i l .1;
-      ranks = λ i l. each i l .2;
+      limits = λ i l. each i l .0 .0;
+      roots = λ i l. each i l .1 .0;
+      supertags = λ i l. rank-made new i (tags + 1) (rankOf (tagAt new i)) (omega arith) (each i l .1 .1 .1);
+      public-roots = λ i l. each i l .1 .1 .0;
+      ranks = λ i l. each i l .1 .1 .1;
+      supertags-unused = λ i l. each i l .0 .1;
       unused = λ i l m. rw (getD-set-other rows tags i row noTag (λ q. omega arith)) (w .unused i (omega arith) m);
     }

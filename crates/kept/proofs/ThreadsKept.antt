@@ -14,6 +14,7 @@ use Rattle.numbers.specs.declared.Principal.{Principal}
 use Rattle.numbers.specs.declared.flow.LabelPair.{LabelPair}
 use Rattle.numbers.proofs.Bools.{implies, implied}
 use Rattle.numbers.proofs.Says.{eqb-is, leb-is, ltb-is, itself, and-is, from-is, all-is}
+use Rattle.tables.specs.Rows.{isLive}
 use Rattle.tables.specs.declared.rows.ThreadRow.{ThreadRow}
 use Rattle.tables.specs.Things.{nobody, noThread, pastThread, threadAt}
 use Rattle.row_rules.specs.RowRules.{labelsMade, asideAt, asideMade, asideUnused, threadInLimits, threadMade, threadUnused}
@@ -32,6 +33,7 @@ pub record RowHolds (principals tags : ℕ) (r : ThreadRow) : Type 0 where
 
 -- what they say of a live one
 record LiveHolds (principals tags : ℕ) (r : ThreadRow) : Type 0 where
+  flag : r .live ≤ 1
   principal : r .principal .0 < principals
   labels : labelsMade tags (r .labels) ≡ true
   calls : r .calls ≤ mostPutAside
@@ -55,37 +57,39 @@ live-is : {q : Bool} {A : Type 0} (live : Bool) → (q ≡ true) ↔ A → ((not
 live-is {q} live f = (λ e l. f .0 (implies live q e l), λ g. implied live q (λ l. f .1 (g l)))
 
 -- "a limit"
-threadInLimits-is : (r : ThreadRow) → (threadInLimits r ≡ true) ↔ (r .live ≡ true → r .calls ≤ mostPutAside)
-threadInLimits-is r = live-is (r .live) (leb-is (r .calls) mostPutAside)
+threadInLimits-is : (r : ThreadRow) → (threadInLimits r ≡ true) ↔ ((r .live ≤ 1) × (isLive (r .live) ≡ true → r .calls ≤ mostPutAside))
+threadInLimits-is r = and-is (leb-is (r .live) 1) (live-is (isLive (r .live)) (leb-is (r .calls) mostPutAside))
 
 -- "an unmade number"
 threadMade-is :
     (principals tags : ℕ) (r : ThreadRow)
     → (threadMade principals tags r ≡ true) ↔ (
-    r .live ≡ true
+    isLive (r .live) ≡ true
     → (r .principal .0 < principals)
     × ((labelsMade tags (r .labels) ≡ true) × ((k : ℕ) → k < r .calls → asideAt (r .aside) k < principals)))
 threadMade-is principals tags r =
-    live-is (r .live)
+    live-is (isLive (r .live))
     (and-is (ltb-is (r .principal .0) principals) (and-is (itself (labelsMade tags (r .labels))) (asideMade-is principals (r .aside) (r .calls))))
 
 module _ {principals tags : ℕ} {r : ThreadRow} where
   -- a live row obeys the rules exactly where they say so
-  live-says : RowHolds principals tags r → r .live ≡ true → LiveHolds principals tags r
+  live-says : RowHolds principals tags r → isLive (r .live) ≡ true → LiveHolds principals tags r
   live-says w live =
+      let limits = threadInLimits-is r .0 (w .limits) in
       let m = threadMade-is principals tags r .0 (w .made) live in
       record {
+        flag = limits .0;
         principal = m .0;
         labels = m .1 .0;
-        calls = threadInLimits-is r .0 (w .limits) live;
+        calls = limits .1 live;
         aside = m .1 .1;
         rest = asideUnused-is (r .aside) (r .calls) .0 (rw live at (w .unused));
       }
 
-  live-holds : LiveHolds principals tags r → r .live ≡ true → RowHolds principals tags r
+  live-holds : LiveHolds principals tags r → isLive (r .live) ≡ true → RowHolds principals tags r
   live-holds w live =
       record {
-        limits = threadInLimits-is r .1 (λ l. w .calls);
+        limits = threadInLimits-is r .1 (w .flag, λ l. w .calls);
         made = threadMade-is principals tags r .1 (λ l. (w .principal, (w .labels, w .aside)));
         unused = rw live (asideUnused-is (r .aside) (r .calls) .1 (w .rest));
       }
@@ -137,18 +141,19 @@ pub ended-holds : {principals tags : ℕ} → RowHolds principals tags noThread
 unfolding asideUnused allBelow
 ended-holds = record { limits = refl; made = refl; unused = refl }
 
-module _ {principals tags : ℕ} {r : ThreadRow} (w : RowHolds principals tags r) (live : r .live ≡ true) where
+module _ {principals tags : ℕ} {r : ThreadRow} (w : RowHolds principals tags r) (live : isLive (r .live) ≡ true) where
   -- 0A to 0D: other labels, of made tags
   pub labelled-holds : (l : LabelPair) → labelsMade tags l ≡ true → RowHolds principals tags (labelled r l)
   labelled-holds l e =
       let a = live-says w live in
-      live-holds (record { principal = a .principal; labels = e; calls = a .calls; aside = a .aside; rest = a .rest }) live
+      live-holds (record { flag = a .flag; principal = a .principal; labels = e; calls = a .calls; aside = a .aside; rest = a .rest }) live
 
   -- 0E: a thread more, of a made principal
   pub forked-holds : {p : Principal} → p .0 < principals → RowHolds principals tags (forked r p)
   forked-holds h =
       live-holds
       (record {
+        flag = omega arith;
         principal = h;
         labels = live-says w live .labels;
         calls = omega arith;
@@ -163,6 +168,7 @@ module _ {principals tags : ℕ} {r : ThreadRow} (w : RowHolds principals tags r
       let a = live-says w live in
       live-holds
       (record {
+        flag = a .flag;
         principal = h;
         labels = a .labels;
         calls = omega arith;
@@ -179,6 +185,7 @@ module _ {principals tags : ℕ} {r : ThreadRow} (w : RowHolds principals tags r
       let a = live-says w live in
       live-holds
       (record {
+        flag = a .flag;
         principal = a .aside (r .calls - 1) (omega arith);
         labels = a .labels;
         calls = omega arith;

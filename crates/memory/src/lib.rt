@@ -16,6 +16,7 @@ use numbers::Tag;
 use numbers::one_more;
 
 // A pair is the number of its principal * 256 + that of its tag. The first `held` places are in use.
+#[repr(C)]
 pub struct Memory {
     pub size: usize,
     pub held: usize,

@@ -7,7 +7,7 @@ use Rattle.numbers.specs.declared.Tag.{Tag}
 use Rattle.numbers.specs.Labels.{namesOnlyMade}
 use Rattle.links.specs.declared.authority.Lineage.{Lineage}
 use Rattle.links.specs.declared.authority.Lineage.the-variants.{Supertag, Subtag}
-use Rattle.tables.specs.Free.{isFree}
+use Rattle.tables.specs.Rows.{isFree, whatOf}
 use Rattle.tables.specs.declared.rows.What.{What}
 use Rattle.tables.specs.declared.rows.What.the-variants as what
 use Rattle.frames.specs.declared.requests.AuthorityRequest.{AuthorityRequest}
@@ -71,13 +71,13 @@ threadNamed s Return = true
 
 abbrev pub objectFits : Sight → ObjectRequest → Bool
 objectFits s (New k l) = namesOnlyMade (l .secrecy) (s .tags) && namesOnlyMade (l .integrity) (s .tags)
-objectFits s (Delete o) = not (isFree (s .object .what))
-objectFits s (ReadCell o) = isCell (s .object .what)
-objectFits s (WriteCell o m) = isCell (s .object .what)
-objectFits s (Put o m) = isQueue (s .object .what)
-objectFits s (Get o) = isQueue (s .object .what)
-objectFits s (Lock o) = isLock (s .object .what)
-objectFits s (Unlock o) = isLock (s .object .what)
+objectFits s (Delete o) = not (isFree (whatOf (s .object)))
+objectFits s (ReadCell o) = isCell (whatOf (s .object))
+objectFits s (WriteCell o m) = isCell (whatOf (s .object))
+objectFits s (Put o m) = isQueue (whatOf (s .object))
+objectFits s (Get o) = isQueue (whatOf (s .object))
+objectFits s (Lock o) = isLock (whatOf (s .object))
+objectFits s (Unlock o) = isLock (whatOf (s .object))
 
 abbrev pub named : Sight → Request → Bool
 named s (OfAuthority r) = authorityNamed s r

@@ -21,8 +21,9 @@ use links::Lineage;
 use numbers::Principal;
 use numbers::Tag;
 use sight::Sight;
-use tables::free::is_free;
 use tables::rows::What;
+use tables::says::is_free;
+use tables::says::what_of;
 
 fn principal_made(s: Sight, p: Principal) -> bool
     ensures { λ r. ⌜ r ≡ principalMade s p ⌝ }
@@ -119,7 +120,7 @@ fn object_fits(s: Sight, r: ObjectRequest) -> bool
     ensures { λ b. ⌜ b ≡ objectFits s r ⌝ }
 {
     let row = s.object;
-    let what = row.what;
+    let what = what_of(row);
     let tags = s.tags as usize;
     match r {
         ObjectRequest::New(_, l) => l.secrecy.names_only_made(tags)

@@ -28,6 +28,16 @@ mostPutAside = 8
 abbrev pub mostObjects : ℕ
 mostObjects = 64
 
+-- "of kind 0 cell, 1 queue, 2 lock"
+abbrev pub cell : ℕ
+cell = 0
+
+abbrev pub queue : ℕ
+queue = 1
+
+abbrev pub lock : ℕ
+lock = 2
+
 -- "A message is 0 to 32 bytes."
 abbrev pub longestMessage : ℕ
 longestMessage = 32

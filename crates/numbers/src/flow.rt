@@ -7,6 +7,7 @@ ghost use Rattle.numbers.specs.Flow.{mayRead, mayWrite, mayBoth, meets};
 use crate::labels::Label;
 
 // The two labels of a thread, S and I, or of an object, s and i.
+#[repr(C)]
 pub struct LabelPair {
     pub secrecy: Label,
     pub integrity: Label,

@@ -20,6 +20,7 @@ ghost use Rattle.numbers.specs.LabelBytes.{numberOf, labelOfBytes, bytes
 use crate::TAGS;
 use crate::Tag;
 
+#[repr(C)]
 pub struct Label(pub u64);
 
 impl Label {

@@ -12,8 +12,10 @@ pub use flow::LabelPair;
 pub use flow::Need;
 pub use labels::Label;
 
+#[repr(C)]
 pub struct Principal(pub u8);
 
+#[repr(C)]
 pub struct Tag(pub u8);
 
 pub struct Thread(pub u8);

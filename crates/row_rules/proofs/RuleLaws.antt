@@ -1,20 +1,17 @@
 -- What the rules of rows say, one by one. Assumes nothing.
 use mathlib.Core.Path.{_≡_, refl}
-use mathlib.Core.Bool.{true, not, _||_}
+use mathlib.Core.Bool.{Bool, true, false, not, cond, _||_}
 use mathlib.Core.List.{List}
 use mathlib.Core.Logic.{_↔_}
 use Prim.Native.Nat.{ℕ, _≤_, _<_}
 use Rattle.numbers.specs.Numbers.{public, mostThreads, mostTags, mostObjects}
-use Rattle.numbers.specs.declared.flow.LabelPair.{LabelPair}
 use Rattle.numbers.proofs.Says.{eqb-is, leb-is, ltb-is, itself, and-is, not-is, from-is, all-is}
 use Rattle.tables.specs.Things.{threadAt, tagAt, objectAt}
 use Rattle.tables.specs.declared.rows.ThreadRow.{ThreadRow}
 use Rattle.tables.specs.declared.rows.TagRow.{TagRow}
 use Rattle.tables.specs.declared.rows.ObjectRow.{ObjectRow}
-use Rattle.tables.specs.declared.rows.What.{What}
-use Rattle.tables.specs.declared.rows.What.the-variants.{Free, Cell, Queue, Lock}
-use Rattle.tables.specs.Free.{isFree}
-use Rattle.row_rules.specs.RowRules.{labelsMade, labelsEmpty, threadInLimits, threadMade, threadUnused, threadHolds, threadsHold, supertagMade, rankHolds, isNoTag, tagHolds, tagsMade, tagsUnused, tagsHold, whatInLimits, objectMade, objectUnused, whatLabels, objectHolds, objectsHold}
+use Rattle.tables.specs.Rows.{rankOf, isFree, whatOf}
+use Rattle.row_rules.specs.RowRules.{labelsMade, labelsEmpty, threadInLimits, threadMade, threadUnused, threadHolds, threadsHold, tagInLimits, supertagUnused, supertagMade, rankHolds, isNoTag, tagHolds, tagsMade, tagsUnused, tagsHold, objectInLimits, objectMade, numbersUnused, objectUnused, objectHolds, objectsHold}
 
 -- ---- threads
 
@@ -43,18 +40,23 @@ threadsHold-is principals tags rows =
 
 tagHolds-is :
     (principals tags : ℕ) (rows : List TagRow) (i : ℕ) (r : TagRow)
-    → (tagHolds principals tags rows i r ≡ true) ↔ (((r .root .0 < principals) × (supertagMade tags (r .rank) ≡ true)) × ((r .root .0 ≡ public → ⊥) × (rankHolds rows i (r .rank) ≡ true)))
+    → (tagHolds principals tags rows i r ≡ true)
+    ↔ (((tagInLimits r ≡ true) × (supertagUnused r ≡ true))
+    × (((r .root .0 < principals) × (supertagMade tags (rankOf r) ≡ true)) × ((r .root .0 ≡ public → ⊥) × (rankHolds rows i (rankOf r) ≡ true))))
 tagHolds-is principals tags rows i r =
-    and-is (and-is (ltb-is (r .root .0) principals) (itself (supertagMade tags (r .rank))))
-    (and-is (not-is (eqb-is (r .root .0) public)) (itself (rankHolds rows i (r .rank))))
+    and-is (and-is (itself (tagInLimits r)) (itself (supertagUnused r)))
+    (and-is (and-is (ltb-is (r .root .0) principals) (itself (supertagMade tags (rankOf r))))
+    (and-is (not-is (eqb-is (r .root .0) public)) (itself (rankHolds rows i (rankOf r)))))
 
 -- tags that obey their rules, rule by rule
 pub record TagsHold (principals tags : ℕ) (rows : List TagRow) : Type 0 where
   pub limit : tags ≤ mostTags
+  pub limits : (i : ℕ) → i < tags → tagInLimits (tagAt rows i) ≡ true
   pub roots : (i : ℕ) → i < tags → tagAt rows i .root .0 < principals
-  pub supertags : (i : ℕ) → i < tags → supertagMade tags (tagAt rows i .rank) ≡ true
+  pub supertags : (i : ℕ) → i < tags → supertagMade tags (rankOf (tagAt rows i)) ≡ true
   pub public-roots : (i : ℕ) → i < tags → tagAt rows i .root .0 ≡ public → ⊥
-  pub ranks : (i : ℕ) → i < tags → rankHolds rows i (tagAt rows i .rank) ≡ true
+  pub ranks : (i : ℕ) → i < tags → rankHolds rows i (rankOf (tagAt rows i)) ≡ true
+  pub supertags-unused : (i : ℕ) → i < tags → supertagUnused (tagAt rows i) ≡ true
   pub unused : (i : ℕ) → tags ≤ i → i < mostTags → isNoTag (tagAt rows i) ≡ true
 
 pub tagsHold-is : (principals tags : ℕ) (rows : List TagRow) → (tagsHold principals tags rows ≡ true) ↔ TagsHold principals tags rows
@@ -67,38 +69,47 @@ tagsHold-is principals tags rows =
           let w = parts .0 e in
           record {
             limit = w .0;
-            roots = λ i h. w .1 .0 i h .0 .0;
-            supertags = λ i h. w .1 .0 i h .0 .1;
-            public-roots = λ i h. w .1 .0 i h .1 .0;
-            ranks = λ i h. w .1 .0 i h .1 .1;
+            limits = λ i h. w .1 .0 i h .0 .0;
+            roots = λ i h. w .1 .0 i h .1 .0 .0;
+            supertags = λ i h. w .1 .0 i h .1 .0 .1;
+            public-roots = λ i h. w .1 .0 i h .1 .1 .0;
+            ranks = λ i h. w .1 .0 i h .1 .1 .1;
+            supertags-unused = λ i h. w .1 .0 i h .0 .1;
             unused = λ i h k. w .1 .1 i k h;
           },
       λ r. parts .1 (
         r .limit,
-        (λ i h. ((r .roots i h, r .supertags i h), (r .public-roots i h, r .ranks i h)), λ i k h. r .unused i h k),
+        (
+          λ i h. ((r .limits i h, r .supertags-unused i h), ((r .roots i h, r .supertags i h), (r .public-roots i h, r .ranks i h))),
+          λ i k h. r .unused i h k,
+        ),
       ),
     )
 
 -- ---- objects
 
 -- an object in use has made labels, and a free one empty ones
-whatLabels-is :
-    (tags : ℕ) (w : What) (l : LabelPair)
-    → (whatLabels tags w l ≡ true) ↔ (((isFree w || labelsMade tags l) ≡ true) × ((not (isFree w) || labelsEmpty l) ≡ true))
-whatLabels-is tags Free l = (λ e. (refl, e), λ w. w .1)
-whatLabels-is tags Cell l = (λ e. (e, refl), λ w. w .0)
-whatLabels-is tags (Queue held) l = (λ e. (e, refl), λ w. w .0)
-whatLabels-is tags (Lock locked) l = (λ e. (e, refl), λ w. w .0)
+labels-are : (free made empty : Bool) → (cond free empty made ≡ true) ↔ (((free || made) ≡ true) × ((not free || empty) ≡ true))
+labels-are true made empty = (λ e. (refl, e), λ w. w .1)
+labels-are false made empty = (λ e. (e, refl), λ w. w .0)
 
 objectHolds-is :
     (tags : ℕ) (r : ObjectRow)
-    → (objectHolds tags r ≡ true) ↔ ((whatInLimits (r .what) ≡ true) × ((objectMade tags r ≡ true) × (objectUnused r ≡ true)))
+    → (objectHolds tags r ≡ true) ↔ ((objectInLimits r ≡ true) × ((objectMade tags r ≡ true) × (objectUnused r ≡ true)))
 unfolding objectHolds
-objectHolds-is tags r = and-is (itself (whatInLimits (r .what))) (whatLabels-is tags (r .what) (r .labels))
+objectHolds-is tags r =
+    let free = isFree (whatOf r) in
+    let unused = numbersUnused (whatOf r) r in
+    let labels = labels-are free (labelsMade tags (r .labels)) (labelsEmpty (r .labels)) in
+    let parts = and-is (itself (objectInLimits r)) (and-is (itself unused) labels) in
+    let both = and-is (itself unused) (itself (not free || labelsEmpty (r .labels))) in (
+      λ e. let w = parts .0 e in (w .0, (w .1 .1 .0, both .1 (w .1 .0, w .1 .1 .1))),
+      λ w. let u = both .0 (w .1 .1) in parts .1 (w .0, (u .0, (w .1 .0, u .1))),
+    )
 
 -- objects that obey their rules, rule by rule
 pub record ObjectsHold (tags : ℕ) (rows : List ObjectRow) : Type 0 where
-  pub limits : (o : ℕ) → o < mostObjects → whatInLimits (objectAt rows o .what) ≡ true
+  pub limits : (o : ℕ) → o < mostObjects → objectInLimits (objectAt rows o) ≡ true
   pub made : (o : ℕ) → o < mostObjects → objectMade tags (objectAt rows o) ≡ true
   pub unused : (o : ℕ) → o < mostObjects → objectUnused (objectAt rows o) ≡ true
 

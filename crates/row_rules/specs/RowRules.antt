@@ -1,16 +1,17 @@
--- The rules of 9 that speak of rows (01, "Refusal numbers"), each a test on one row, in the order of 01. Assumes nothing.
+-- The rules of 9 that speak of rows (01, "Refusal numbers"), each a test on one row, in the order of 01. What a row says is `Rows`'s.
+-- Assumes nothing.
 use mathlib.Core.Bool.{Bool, true, false, not, cond, _&&_, _||_}
 use mathlib.Core.List.{List}
 use Prim.Native.Nat.{ℕ}
 use lib.Dec.{eqb, ltb, leb}
 use lib.ListN.{getD}
 use Rattle.numbers.specs.Below.{allBelow}
-use Rattle.numbers.specs.Numbers.{public, mostThreads, mostPutAside, mostTags, mostObjects, mostQueued}
+use Rattle.numbers.specs.Numbers.{public, mostThreads, mostPutAside, mostTags, mostObjects, lock, mostQueued}
 use Rattle.numbers.specs.Labels.{namesOnlyMade, isEmpty}
 use Rattle.numbers.specs.declared.Principal.{Principal}
 use Rattle.numbers.specs.declared.flow.LabelPair.{LabelPair}
 use Rattle.tables.specs.Things.{nobody, threadAt, tagAt, objectAt}
-use Rattle.tables.specs.Free.{isFree}
+use Rattle.tables.specs.Rows.{isSet, isLive, rankOf, isFree, whatOf}
 use Rattle.tables.specs.declared.rows.ThreadRow.{ThreadRow}
 use Rattle.tables.specs.declared.rows.TagRow.{TagRow}
 use Rattle.tables.specs.declared.rows.Rank.{Rank}
@@ -19,7 +20,11 @@ use Rattle.tables.specs.declared.rows.ObjectRow.{ObjectRow}
 use Rattle.tables.specs.declared.rows.What.{What}
 use Rattle.tables.specs.declared.rows.What.the-variants.{Free, Cell, Queue, Lock}
 
--- ---- labels
+-- ---- flags and labels
+
+-- "a limit": a flag is 0 or 1
+abbrev pub isFlag : ℕ → Bool
+isFlag n = leb n 1
 
 abbrev pub labelsMade : ℕ → LabelPair → Bool
 labelsMade tags l = namesOnlyMade (l .secrecy) tags && namesOnlyMade (l .integrity) tags
@@ -46,17 +51,17 @@ isNoThread r = eqb (r .principal .0) public && (labelsEmpty (r .labels) && (eqb 
 
 -- "a limit"
 abbrev pub threadInLimits : ThreadRow → Bool
-threadInLimits r = not (r .live) || leb (r .calls) mostPutAside
+threadInLimits r = isFlag (r .live) && (not (isLive (r .live)) || leb (r .calls) mostPutAside)
 
 -- "nonzero unused place"
 abbrev pub threadUnused : ThreadRow → Bool
-threadUnused r = cond (not (r .live)) (isNoThread r) (asideUnused (r .aside) (r .calls))
+threadUnused r = cond (not (isLive (r .live))) (isNoThread r) (asideUnused (r .aside) (r .calls))
 
 module _ (principals tags : ℕ) where
   -- "an unmade number"
   abbrev pub threadMade : ThreadRow → Bool
   threadMade r =
-      not (r .live) || (ltb (r .principal .0) principals && (labelsMade tags (r .labels) && asideMade principals (r .aside) (r .calls)))
+      not (isLive (r .live)) || (ltb (r .principal .0) principals && (labelsMade tags (r .labels) && asideMade principals (r .aside) (r .calls)))
 
   unfoldable pub threadHolds : ThreadRow → Bool
   threadHolds r = threadInLimits r && (threadMade r && threadUnused r)
@@ -71,7 +76,15 @@ isSupertag Supertag = true
 isSupertag (SubtagOf t) = false
 
 abbrev pub isNoTag : TagRow → Bool
-isNoTag r = eqb (r .root .0) public && isSupertag (r .rank)
+isNoTag r = eqb (r .root .0) public && (eqb (r .subtag) 0 && eqb (r .supertag .0) 0)
+
+-- "a limit"
+abbrev pub tagInLimits : TagRow → Bool
+tagInLimits r = isFlag (r .subtag)
+
+-- "nonzero unused place": a tag that is no subtag has no supertag
+abbrev pub supertagUnused : TagRow → Bool
+supertagUnused r = isSet (r .subtag) || eqb (r .supertag .0) 0
 
 -- "an unmade number", of the supertag
 abbrev pub supertagMade : ℕ → Rank → Bool
@@ -81,12 +94,17 @@ supertagMade tags (SubtagOf t) = ltb (t .0) tags
 -- "a subtag of a subtag or of a later tag": tag i, of this rank, is not
 abbrev pub rankHolds : List TagRow → ℕ → Rank → Bool
 rankHolds rows i Supertag = true
-rankHolds rows i (SubtagOf t) = ltb (t .0) i && isSupertag (tagAt rows (t .0) .rank)
+rankHolds rows i (SubtagOf t) = ltb (t .0) i && isSupertag (rankOf (tagAt rows (t .0)))
 
--- "an unmade number", "a public root", "a subtag of a subtag or of a later tag": tag i, which is made, obeys them
+-- the numbers of a tag that is made
+abbrev pub tagNumbersHold : TagRow → Bool
+tagNumbersHold r = tagInLimits r && supertagUnused r
+
+-- with "an unmade number", "a public root", "a subtag of a subtag or of a later tag": tag i, which is made, obeys them
 abbrev pub tagHolds : ℕ → ℕ → List TagRow → ℕ → TagRow → Bool
 tagHolds principals tags rows i r =
-    (ltb (r .root .0) principals && supertagMade tags (r .rank)) && (not (eqb (r .root .0) public) && rankHolds rows i (r .rank))
+    tagNumbersHold r
+    && ((ltb (r .root .0) principals && supertagMade tags (rankOf r)) && (not (eqb (r .root .0) public) && rankHolds rows i (rankOf r)))
 
 unfoldable pub tagsMade : ℕ → List TagRow → ℕ → Bool
 tagsMade principals rows tags = allBelow tags (λ i. tagHolds principals tags rows i (tagAt rows i))
@@ -117,24 +135,35 @@ whatInLimits Cell = true
 whatInLimits (Queue held) = leb held mostQueued
 whatInLimits (Lock locked) = true
 
+-- the flags, and the kind of an object in use
+abbrev pub objectNumbersInLimits : ObjectRow → Bool
+objectNumbersInLimits r = isFlag (r .live) && (not (isLive (r .live)) || (isFlag (r .locked) && leb (r .kind) lock))
+
+abbrev pub objectInLimits : ObjectRow → Bool
+objectInLimits r = objectNumbersInLimits r && whatInLimits (whatOf r)
+
 -- "an unmade number"
 abbrev pub objectMade : ℕ → ObjectRow → Bool
-objectMade tags r = isFree (r .what) || labelsMade tags (r .labels)
+objectMade tags r = isFree (whatOf r) || labelsMade tags (r .labels)
 
--- "nonzero unused place"
+-- "nonzero unused place": `held` of what is no queue, `locked` of what is no lock, `kind` of a free one
+abbrev pub numbersUnused : What → ObjectRow → Bool
+numbersUnused Free r = eqb (r .kind) 0 && (eqb (r .held) 0 && eqb (r .locked) 0)
+numbersUnused Cell r = eqb (r .held) 0 && eqb (r .locked) 0
+numbersUnused (Queue held) r = eqb (r .locked) 0
+numbersUnused (Lock locked) r = eqb (r .held) 0
+
+-- and the labels of a free one
 abbrev pub objectUnused : ObjectRow → Bool
-objectUnused r = not (isFree (r .what)) || labelsEmpty (r .labels)
+objectUnused r = numbersUnused (whatOf r) r && (not (isFree (whatOf r)) || labelsEmpty (r .labels))
 
 module _ (tags : ℕ) where
   -- "an unmade number", "nonzero unused place"
   abbrev pub whatLabels : What → LabelPair → Bool
-  whatLabels Free l = labelsEmpty l
-  whatLabels Cell l = labelsMade tags l
-  whatLabels (Queue held) l = labelsMade tags l
-  whatLabels (Lock locked) l = labelsMade tags l
+  whatLabels w l = cond (isFree w) (labelsEmpty l) (labelsMade tags l)
 
   unfoldable pub objectHolds : ObjectRow → Bool
-  objectHolds r = whatInLimits (r .what) && whatLabels (r .what) (r .labels)
+  objectHolds r = objectInLimits r && (numbersUnused (whatOf r) r && whatLabels (whatOf r) (r .labels))
 
   unfoldable pub objectsHold : List ObjectRow → Bool
   objectsHold rows = allBelow mostObjects (λ o. objectHolds (objectAt rows o))

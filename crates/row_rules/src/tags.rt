@@ -1,12 +1,14 @@
 // The rules of 9 on the rows of tags.
 ghost use mathlib.Core.Path.{_≡_};
 ghost use Prim.Native.Nat.{_≤_};
-ghost use Rattle.row_rules.specs.RowRules.{isSupertag, isNoTag, rootHolds, aboveOf, tagsMade, tagsUnused, tagsHold};
+ghost use Rattle.row_rules.specs.RowRules.{isSupertag, isNoTag, tagNumbersHold, rootHolds, aboveOf, tagsMade, tagsUnused, tagsHold};
+use crate::objects::is_flag;
 use numbers::PUBLIC;
 use numbers::Principal;
 use numbers::TAGS;
 use tables::rows::Rank;
 use tables::rows::TagRow;
+use tables::says::rank_of;
 
 fn is_supertag(rank: Rank) -> bool
     ensures { λ r. ⌜ r ≡ isSupertag rank ⌝ }
@@ -15,6 +17,13 @@ fn is_supertag(rank: Rank) -> bool
         Rank::Supertag => true,
         Rank::SubtagOf(_) => false,
     }
+}
+
+// The flag is 0 or 1, and a tag that is no subtag has no supertag.
+fn numbers_hold(row: TagRow) -> bool
+    ensures { λ r. ⌜ r ≡ tagNumbersHold row ⌝ }
+{
+    is_flag(row.subtag) & ((row.subtag != 0) | (row.supertag.0 == 0))
 }
 
 // A root is made, and is not the public.
@@ -37,7 +46,8 @@ fn above_of(rank: Rank, i: usize) -> usize
     }
 }
 
-// The first n rows: roots that are made and not the public, and no subtag of a subtag or of a later tag.
+// The first n rows: plain numbers, roots that are made and not the public, and no subtag of a subtag or of a
+// later tag.
 fn tags_made(rows: [TagRow; 64], n: usize, principals: u32) -> bool
     requires { ⌜ n ≤ 64 ⌝ }
     ensures { λ r. ⌜ r ≡ tagsMade principals rows n ⌝ }
@@ -46,10 +56,9 @@ fn tags_made(rows: [TagRow; 64], n: usize, principals: u32) -> bool
     let mut i = 0;
     while i < n {
         let row = rows[i];
-        let rank = row.rank;
-        let above = rows[above_of(rank, i)];
-        let rank_above = above.rank;
-        ok = (root_holds(row.root, principals) & is_supertag(rank_above)) & ok;
+        let above = rows[above_of(rank_of(row), i)];
+        let ranked = root_holds(row.root, principals) & is_supertag(rank_of(above));
+        ok = (numbers_hold(row) & ranked) & ok;
         i += 1;
     }
     ok
@@ -59,8 +68,7 @@ fn tags_made(rows: [TagRow; 64], n: usize, principals: u32) -> bool
 fn is_no_tag(row: TagRow) -> bool
     ensures { λ r. ⌜ r ≡ isNoTag row ⌝ }
 {
-    let rank = row.rank;
-    (row.root.0 == PUBLIC) & is_supertag(rank)
+    (row.root.0 == PUBLIC) & ((row.subtag == 0) & (row.supertag.0 == 0))
 }
 
 // "Nonzero unused place": the rows after the first n are zero.

@@ -2,6 +2,7 @@
 ghost use mathlib.Core.Path.{_≡_};
 ghost use Prim.Native.Nat.{_≤_};
 ghost use Rattle.row_rules.specs.RowRules.{asideMade, asideUnused, isNoThread, threadHolds, threadsHold};
+use crate::objects::is_flag;
 use crate::objects::labels_empty;
 use crate::objects::labels_made;
 use numbers::PUBLIC;
@@ -9,6 +10,7 @@ use numbers::PUT_ASIDE;
 use numbers::Principal;
 use numbers::THREADS;
 use tables::rows::ThreadRow;
+use tables::says::is_live;
 
 // "An unmade number": the first n put aside are made.
 fn aside_made(aside: [Principal; 8], n: usize, principals: u32) -> bool
@@ -52,7 +54,10 @@ fn is_no_thread(row: ThreadRow) -> bool
 fn thread_holds(row: ThreadRow, principals: u32, tags: u32) -> bool
     ensures { λ r. ⌜ r ≡ threadHolds principals tags row ⌝ }
 {
-    if !row.live {
+    if !is_flag(row.live) {
+        return false;
+    }
+    if !is_live(row.live) {
         return is_no_thread(row);
     }
     let calls = row.calls;

@@ -11,12 +11,13 @@ use Rattle.link_rules.specs.LinkRules.{linksHold}
 use Rattle.link_rules.proofs.RuleLaws.{Limits, linksHold-is}
 use Rattle.memory.specs.declared.Memory.{Memory}
 use Rattle.memory.specs.Remembered.{Fits}
+use Rattle.tables.specs.Rows.{whatOf}
 use Rattle.tables.specs.declared.Tables.{Tables}
 use Rattle.tables.specs.Things.{objectAt}
 use Rattle.tables.specs.declared.rows.ObjectRow.{ObjectRow}
 use Rattle.tables.specs.declared.rows.What.{What}
 use Rattle.tables.specs.declared.rows.What.the-variants.{Free, Cell, Queue, Lock}
-use Rattle.row_rules.specs.RowRules.{whatInLimits, objectsHold}
+use Rattle.row_rules.specs.RowRules.{objectNumbersInLimits, whatInLimits, objectsHold}
 use Rattle.row_rules.proofs.RuleLaws.{objectsHold-is}
 use Rattle.store_rules.specs.StoreRules.{placesUsed}
 use Rattle.rules.specs.Tested.{listsHold, holdButTruth}
@@ -34,8 +35,8 @@ used-le (Queue held) e = leb-true held 8 e
 used-le (Lock locked) e = omega arith
 
 -- no object uses more than its 8 places
-pub places-fit : (tags : ℕ) (rows : List ObjectRow) → objectsHold tags rows ≡ true → (o : ℕ) → o < 64 → placesUsed (objectAt rows o .what) ≤ 8
-places-fit tags rows e o low = used-le (objectAt rows o .what) (objectsHold-is tags rows .0 e .limits o low)
+pub places-fit : (tags : ℕ) (rows : List ObjectRow) → objectsHold tags rows ≡ true → (o : ℕ) → o < 64 → placesUsed (whatOf (objectAt rows o)) ≤ 8
+places-fit tags rows e o low = used-le (whatOf (objectAt rows o)) (and-right (objectNumbersInLimits (objectAt rows o)) _ (objectsHold-is tags rows .0 e .limits o low))
 
 -- the memory is within its size
 pub memory-fits : (t : Tables) (m : Memory) (l g s : List ℕ) → holdButTruth t m l g s ≡ true → Fits m

@@ -77,8 +77,9 @@ module _ (t : Tables) (m : Memory) (l g s : List ℕ) where
               tags = r .tags .limit;
               links = r .links .limits .few;
               grants = r .grants .limits .few;
-              calls = r .threads .limits;
-              queues = r .objects .limits;
+              threads = r .threads .limits;
+              subtags = r .tags .limits;
+              objects = r .objects .limits;
               messages = r .store .limits;
             };
         whole = record { links = r .links .limits .whole; grants = r .grants .limits .whole; store = r .whole };
@@ -103,6 +104,7 @@ module _ (t : Tables) (m : Memory) (l g s : List ℕ) where
               links = r .links-unused;
               grants = r .grants-unused;
               tags = r .tags .unused;
+              supertags = r .tags .supertags-unused;
               threads = r .threads .unused;
               objects = r .objects .unused;
               messages = r .store .rests;
@@ -140,14 +142,16 @@ module _ (t : Tables) (m : Memory) (l g s : List ℕ) where
         tags =
             record {
               limit = r .limits .tags;
+              limits = r .limits .subtags;
               roots = r .made .roots;
               supertags = r .made .supertags;
               public-roots = r .public-roots;
               ranks = r .subtags;
+              supertags-unused = r .unused .supertags;
               unused = r .unused .tags;
             };
-        threads = record { limits = r .limits .calls; made = r .made .threads; unused = r .unused .threads };
-        objects = record { limits = r .limits .queues; made = r .made .objects; unused = r .unused .objects };
+        threads = record { limits = r .limits .threads; made = r .made .threads; unused = r .unused .threads };
+        objects = record { limits = r .limits .objects; made = r .made .objects; unused = r .unused .objects };
         whole = r .whole .store;
         store = record { limits = r .limits .messages; rests = r .unused .messages; unused = r .unused .places };
         memory =

@@ -12,12 +12,13 @@ use Rattle.links.specs.Cycles.{NoCycle}
 use Rattle.link_rules.specs.LinkRules.{toIn, made}
 use Rattle.store.specs.Store.{placeSize, objectSize, storeSize, byteAt}
 use Rattle.memory.specs.declared.Memory.{Memory}
+use Rattle.tables.specs.Rows.{rankOf, whatOf}
 use Rattle.tables.specs.Things.{threadAt, tagAt, objectAt}
 use Rattle.tables.specs.declared.Tables.{Tables}
 use Rattle.tables.specs.declared.rows.ThreadRow.{ThreadRow}
 use Rattle.tables.specs.declared.rows.TagRow.{TagRow}
 use Rattle.tables.specs.declared.rows.ObjectRow.{ObjectRow}
-use Rattle.row_rules.specs.RowRules.{threadInLimits, threadMade, threadUnused, supertagMade, rankHolds, isNoTag, whatInLimits, objectMade, objectUnused}
+use Rattle.row_rules.specs.RowRules.{threadInLimits, threadMade, threadUnused, tagInLimits, supertagUnused, supertagMade, rankHolds, isNoTag, objectInLimits, objectMade, objectUnused}
 use Rattle.store_rules.specs.StoreRules.{placesUsed}
 use Rattle.memory_rules.specs.MemoryRules.{pairMade}
 use Rattle.rules.specs.Tested.{pairTrue}
@@ -34,7 +35,7 @@ module _ (t : Tables) (m : Memory) (l g s : List ℕ) where
   object o = objectAt (t .objects) o
 
   abbrev places : ℕ → ℕ
-  places o = placesUsed (object o .what)
+  places o = placesUsed (whatOf (object o))
 
   abbrev place : ℕ → ℕ → ℕ
   place o k = o * objectSize + k * placeSize
@@ -48,8 +49,9 @@ module _ (t : Tables) (m : Memory) (l g s : List ℕ) where
     pub tags : t .tags ≤ mostTags
     pub links : t .links ≤ linkPlaces
     pub grants : t .grants ≤ linkPlaces
-    pub calls : (n : ℕ) → n < mostThreads → threadInLimits (thread n) ≡ true
-    pub queues : (o : ℕ) → o < mostObjects → whatInLimits (object o .what) ≡ true
+    pub threads : (n : ℕ) → n < mostThreads → threadInLimits (thread n) ≡ true
+    pub subtags : (i : ℕ) → i < t .tags → tagInLimits (tag i) ≡ true
+    pub objects : (o : ℕ) → o < mostObjects → objectInLimits (object o) ≡ true
     pub messages : (o k : ℕ) → o < mostObjects → k < places o → byteAt s (place o k) ≤ longestMessage
 
   -- "or a lent list of other than 256 places", and the store of messages likewise
@@ -67,7 +69,7 @@ module _ (t : Tables) (m : Memory) (l g s : List ℕ) where
     pub links : (i : ℕ) → i < t .links → made l 1 (t .principals) i ≡ true
     pub grants : (i : ℕ) → i < t .grants → made g (t .tags) (t .principals) i ≡ true
     pub roots : (i : ℕ) → i < t .tags → tag i .root .0 < t .principals
-    pub supertags : (i : ℕ) → i < t .tags → supertagMade (t .tags) (tag i .rank) ≡ true
+    pub supertags : (i : ℕ) → i < t .tags → supertagMade (t .tags) (rankOf (tag i)) ≡ true
     pub threads : (n : ℕ) → n < mostThreads → threadMade (t .principals) (t .tags) (thread n) ≡ true
     pub objects : (o : ℕ) → o < mostObjects → objectMade (t .tags) (object o) ≡ true
     pub pairs : (i : ℕ) → i < m .held → pairMade (t .tags) (t .principals) (pair i) ≡ true
@@ -93,13 +95,14 @@ module _ (t : Tables) (m : Memory) (l g s : List ℕ) where
 
   -- "a subtag of a subtag or of a later tag"
   abbrev pub SubtagsOfSupertags : Type 0
-  SubtagsOfSupertags = (i : ℕ) → i < t .tags → rankHolds (t .kinds) i (tag i .rank) ≡ true
+  SubtagsOfSupertags = (i : ℕ) → i < t .tags → rankHolds (t .kinds) i (rankOf (tag i)) ≡ true
 
   -- "nonzero unused place"
   pub record UnusedZero : Type 0 where
     pub links : (i : ℕ) → t .links ≤ i → i < linkPlaces → getD l i 0 ≡ 0
     pub grants : (i : ℕ) → t .grants ≤ i → i < linkPlaces → getD g i 0 ≡ 0
     pub tags : (i : ℕ) → t .tags ≤ i → i < mostTags → isNoTag (tag i) ≡ true
+    pub supertags : (i : ℕ) → i < t .tags → supertagUnused (tag i) ≡ true
     pub threads : (n : ℕ) → n < mostThreads → threadUnused (thread n) ≡ true
     pub objects : (o : ℕ) → o < mostObjects → objectUnused (object o) ≡ true
     -- what follows a message in its place, and the places that an object does not use

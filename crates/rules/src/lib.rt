@@ -4,6 +4,7 @@ mod truth;
 
 ghost use mathlib.Core.Path.{_≡_};
 ghost use Prim.Native.Nat.{ℕ, _≤_, _<_};
+ghost use Rattle.tables.specs.Rows.{whatOf};
 ghost use Rattle.tables.specs.Things.{objectAt};
 ghost use Rattle.store_rules.specs.StoreRules.{placesUsed};
 ghost use Rattle.rules.specs.Tested.{listsHold, rowsHold, messagesHold, holdButTruth, breakNoRule};
@@ -64,7 +65,7 @@ fn rows_hold(
 
 // The store of messages, and its length.
 fn messages_hold(store: &[u8], objects: [ObjectRow; 64]) -> bool
-    requires { ⌜ ((o : ℕ) → o < 64 → placesUsed (objectAt objects o .what) ≤ 8) ⌝ }
+    requires { ⌜ ((o : ℕ) → o < 64 → placesUsed (whatOf (objectAt objects o)) ≤ 8) ⌝ }
     ensures { λ r. ⌜ r ≡ messagesHold (now (store .entry)) objects ⌝ }
 {
     if store.len() != STORE {

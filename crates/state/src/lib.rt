@@ -6,6 +6,7 @@ use numbers::REMEMBERED;
 use tables::Tables;
 use tables::fresh_tables;
 
+#[repr(C)]
 pub struct State {
     pub tables: Tables,
     pub memory: Memory,

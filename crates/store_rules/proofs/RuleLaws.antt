@@ -8,6 +8,7 @@ use Rattle.numbers.specs.Numbers.{longestMessage, mostObjects}
 use Rattle.numbers.proofs.Says.{leb-is, and-is, all-is}
 use Rattle.store.specs.Store.{placeSize, objectSize, placeAt, byteAt}
 use Rattle.store.proofs.StoreLaws.{zeros-between}
+use Rattle.tables.specs.Rows.{whatOf}
 use Rattle.tables.specs.Things.{objectAt}
 use Rattle.tables.specs.declared.rows.ObjectRow.{ObjectRow}
 use Rattle.store_rules.specs.StoreRules.{placesUsed, placeHolds, placesHold, storeHolds}
@@ -21,7 +22,7 @@ placeHolds-is s at = and-is (leb-is (byteAt s at) longestMessage) (zeros-between
 module _ (s : List ℕ) (rows : List ObjectRow) where
   -- how many places object o uses
   abbrev places : ℕ → ℕ
-  places o = placesUsed (objectAt rows o .what)
+  places o = placesUsed (whatOf (objectAt rows o))
 
   -- a store that obeys its rules, rule by rule: its messages, what follows them, and the places that no object uses
   pub record StoreHolds : Type 0 where

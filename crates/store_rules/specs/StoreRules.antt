@@ -6,6 +6,7 @@ use lib.Dec.{leb}
 use Rattle.numbers.specs.Below.{allBelow}
 use Rattle.numbers.specs.Numbers.{longestMessage, mostObjects}
 use Rattle.store.specs.Store.{placeSize, objectSize, byteAt, zeros}
+use Rattle.tables.specs.Rows.{whatOf}
 use Rattle.tables.specs.Things.{objectAt}
 use Rattle.tables.specs.declared.rows.ObjectRow.{ObjectRow}
 use Rattle.tables.specs.declared.rows.What.{What}
@@ -31,4 +32,4 @@ abbrev pub objectHolds : List ℕ → ℕ → ℕ → Bool
 objectHolds s at n = zeros s (at + n * placeSize) (objectSize - n * placeSize) && placesHold s at n
 
 unfoldable pub storeHolds : List ℕ → List ObjectRow → Bool
-storeHolds s rows = allBelow mostObjects (λ o. objectHolds s (o * objectSize) (placesUsed (objectAt rows o .what)))
+storeHolds s rows = allBelow mostObjects (λ o. objectHolds s (o * objectSize) (placesUsed (whatOf (objectAt rows o))))

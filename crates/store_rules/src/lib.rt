@@ -3,6 +3,7 @@
 ghost use mathlib.Core.Path.{_≡_};
 ghost use Prim.Native.Nat.{ℕ, _+_, _*_, _≤_, _<_};
 ghost use lib.ListN.{length};
+ghost use Rattle.tables.specs.Rows.{whatOf};
 ghost use Rattle.tables.specs.Things.{objectAt};
 ghost use Rattle.store_rules.specs.StoreRules.{placesUsed, placeHolds, placesHold, objectHolds, storeHolds};
 use numbers::LONGEST;
@@ -13,6 +14,7 @@ use store::PLACE;
 use store::zeros;
 use tables::rows::ObjectRow;
 use tables::rows::What;
+use tables::says::what_of;
 
 // How many of its 8 places an object uses.
 fn places_used(what: What) -> usize
@@ -67,15 +69,14 @@ fn object_holds(s: &[u8], at: usize, n: usize) -> bool
 // The store of these objects obeys both rules.
 pub fn store_holds(s: &[u8], rows: [ObjectRow; 64]) -> bool
     requires { ⌜ length (now s) ≡ 16896 ⌝ }
-    requires { ⌜ ((o : ℕ) → o < 64 → placesUsed (objectAt rows o .what) ≤ 8) ⌝ }
+    requires { ⌜ ((o : ℕ) → o < 64 → placesUsed (whatOf (objectAt rows o)) ≤ 8) ⌝ }
     ensures { λ r. ⌜ r ≡ storeHolds (now (s .entry)) rows ⌝ }
 {
     let mut ok = true;
     let mut o = 0;
     while o < OBJECTS {
         let row = rows[o];
-        let what = row.what;
-        let holds = object_holds(s, o * OBJECT, places_used(what));
+        let holds = object_holds(s, o * OBJECT, places_used(what_of(row)));
         ok = holds & ok;
         o += 1;
     }

@@ -10,8 +10,10 @@ use lib.ListN.{length, getD, List·getD-eq-default}
 use Rattle.numbers.proofs.Bools.{either, never}
 use Rattle.tables.specs.declared.rows.ThreadRow.{ThreadRow}
 use Rattle.tables.specs.declared.rows.ObjectRow.{ObjectRow}
+use Rattle.tables.specs.declared.rows.What.{What}
 use Rattle.tables.specs.Things.{pastThread, noObject, threadAt, objectAt}
-use Rattle.tables.specs.Free.{isFree}
+use Rattle.tables.specs.Rows.{isLive, isFree, whatOf}
+use Rattle.tables.proofs.Said.{no-object-says}
 
 -- a test that fails past the last row holds of a row
 among : {A : Type 0} (f : A → Bool) (rows : List A) (d : A) (n : ℕ) → f d ≡ false → f (getD rows n d) ≡ true → n < length rows
@@ -20,8 +22,8 @@ among f rows d n past e =
     (λ h. absurd (never e (ap f (List·getD-eq-default rows d {n = n} (ltb-false n (length rows) h)) ∙ past)))
     (either (ltb n (length rows)))
 
-pub live-among : (rows : List ThreadRow) (n : ℕ) → threadAt rows n .live ≡ true → n < length rows
-live-among rows n e = among (λ (r : ThreadRow). r .live) rows pastThread n refl e
+pub live-among : (rows : List ThreadRow) (n : ℕ) → isLive (threadAt rows n .live) ≡ true → n < length rows
+live-among rows n e = among (λ (r : ThreadRow). isLive (r .live)) rows pastThread n refl e
 
-pub used-among : (rows : List ObjectRow) (o : ℕ) → isFree (objectAt rows o .what) ≡ false → o < length rows
-used-among rows o e = among (λ (r : ObjectRow). not (isFree (r .what))) rows noObject o refl (ap not e)
+pub used-among : (rows : List ObjectRow) (o : ℕ) → isFree (whatOf (objectAt rows o)) ≡ false → o < length rows
+used-among rows o e = among (λ (r : ObjectRow). not (isFree (whatOf r))) rows noObject o (ap (λ (w : What). not (isFree w)) no-object-says) (ap not e)

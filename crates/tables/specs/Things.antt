@@ -1,12 +1,11 @@
 -- "Things and numbers" (01): what a row of nothing is, and the fresh tables. Assumes nothing.
-use mathlib.Core.Bool.{true, false}
 use mathlib.Core.List.{List, [], _∷_}
 use Prim.Native.Nat.{ℕ}
 use lib.ListN.{getD, replicate}
 use Rattle.numbers.specs.declared.Principal.{Principal}
 use Rattle.numbers.specs.declared.Tag.{Tag}
 use Rattle.numbers.specs.declared.flow.LabelPair.{LabelPair}
-use Rattle.numbers.specs.Numbers.{public, office}
+use Rattle.numbers.specs.Numbers.{public, office, mostTags}
 use Rattle.links.specs.declared.authority.Rooted.{Rooted}
 use Rattle.links.specs.declared.authority.Lineage.{Lineage}
 use Rattle.links.specs.declared.authority.Lineage.the-variants as lineage
@@ -15,8 +14,8 @@ use Rattle.tables.specs.declared.rows.TagRow.{TagRow}
 use Rattle.tables.specs.declared.rows.Rank.{Rank}
 use Rattle.tables.specs.declared.rows.Rank.the-variants.{Supertag, SubtagOf}
 use Rattle.tables.specs.declared.rows.ObjectRow.{ObjectRow}
-use Rattle.tables.specs.declared.rows.What.the-variants.{Free}
 use Rattle.tables.specs.declared.Tables.{Tables}
+use Rattle.tables.specs.Rows.{rankOf}
 
 -- principal 0, which fills the places that are not in use
 abbrev pub nobody : Principal
@@ -27,17 +26,17 @@ noLabels = record { secrecy = record { 0 = 0 }; integrity = record { 0 = 0 } }
 
 -- "Unused places are zero": the row of a thread that is not live, of a tag not made, of a free object number
 abbrev pub noThread : ThreadRow
-noThread = record { live = false; principal = nobody; labels = noLabels; calls = 0; aside = replicate 8 nobody }
+noThread = record { live = 0; principal = nobody; labels = noLabels; calls = 0; aside = replicate 8 nobody }
 
 abbrev pub noTag : TagRow
-noTag = record { root = nobody; rank = Supertag }
+noTag = record { root = nobody; subtag = 0; supertag = record { 0 = 0 } }
 
 abbrev pub noObject : ObjectRow
-noObject = record { what = Free; labels = noLabels }
+noObject = record { live = 0; kind = 0; held = 0; locked = 0; labels = noLabels }
 
 -- the row of a number; past the last there is a row of nothing
 abbrev pub pastThread : ThreadRow
-pastThread = record { live = false; principal = nobody; labels = noLabels; calls = 0; aside = [] }
+pastThread = record { live = 0; principal = nobody; labels = noLabels; calls = 0; aside = [] }
 
 abbrev pub threadAt : List ThreadRow → ℕ → ThreadRow
 threadAt rows n = getD rows n pastThread
@@ -50,7 +49,7 @@ objectAt rows n = getD rows n noObject
 
 -- "thread 0 live, principal 1, empty labels"
 abbrev pub officeThread : ThreadRow
-officeThread = record { live = true; principal = record { 0 = office }; labels = noLabels; calls = 0; aside = replicate 8 nobody }
+officeThread = record { live = 1; principal = record { 0 = office }; labels = noLabels; calls = 0; aside = replicate 8 nobody }
 
 -- "Fresh: principals 0 and 1, no links, tags or objects"
 abbrev pub freshTables : Tables
@@ -75,4 +74,20 @@ lineageBy kinds t Supertag = lineage.Supertag (rootedAt kinds t)
 lineageBy kinds t (SubtagOf above) = lineage.Subtag (rootedAt kinds t) (rootedAt kinds above)
 
 abbrev pub lineageOf : List TagRow → Tag → Lineage
-lineageOf kinds t = lineageBy kinds t (tagAt kinds (t .0) .rank)
+lineageOf kinds t = lineageBy kinds t (rankOf (tagAt kinds (t .0)))
+
+-- ---- the same, read row by row
+
+-- the number of a tag's supertag; a supertag has none
+abbrev pub supertagOf : Rank → ℕ
+supertagOf Supertag = mostTags
+supertagOf (SubtagOf above) = above .0
+
+-- of tag t, made by p, under a supertag made by q
+abbrev pub lineageFrom : Tag → Principal → Principal → Rank → Lineage
+lineageFrom t p q Supertag = lineage.Supertag (record { tag = t; root = p })
+lineageFrom t p q (SubtagOf above) = lineage.Subtag (record { tag = t; root = p }) (record { tag = above; root = q })
+
+-- of tag t with this row, under a supertag with the row above
+abbrev pub lineageIn : Tag → TagRow → TagRow → Lineage
+lineageIn t row above = lineageFrom t (row .root) (above .root) (rankOf row)

@@ -1,9 +1,11 @@
 // "New threads and objects take the lowest free number, freed ones included."
 ghost use mathlib.Core.Path.{_≡_};
-ghost use Rattle.tables.specs.Free.{isFree, freeThread, freeObject};
+ghost use Rattle.tables.specs.Free.{freeThread, freeObject};
 use crate::rows::ObjectRow;
 use crate::rows::ThreadRow;
-use crate::rows::What;
+use crate::says::is_free;
+use crate::says::is_live;
+use crate::says::what_of;
 use numbers::OBJECTS;
 use numbers::THREADS;
 
@@ -14,23 +16,12 @@ pub fn free_thread(rows: [ThreadRow; 16]) -> usize
     let mut i = 0;
     while i < THREADS {
         let row = rows[i];
-        if !row.live {
+        if !is_live(row.live) {
             return i;
         }
         i += 1;
     }
     i
-}
-
-pub fn is_free(what: What) -> bool
-    ensures { λ r. ⌜ r ≡ isFree what ⌝ }
-{
-    match what {
-        What::Free => true,
-        What::Cell => false,
-        What::Queue(_) => false,
-        What::Lock(_) => false,
-    }
 }
 
 // The lowest object number that is free, or 64.
@@ -40,8 +31,7 @@ pub fn free_object(rows: [ObjectRow; 64]) -> usize
     let mut i = 0;
     while i < OBJECTS {
         let row = rows[i];
-        let what = row.what;
-        if is_free(what) {
+        if is_free(what_of(row)) {
             return i;
         }
         i += 1;

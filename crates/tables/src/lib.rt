@@ -4,6 +4,7 @@
 pub mod free;
 pub mod lineage;
 pub mod rows;
+pub mod says;
 
 ghost use mathlib.Core.Path.{_≡_};
 ghost use Rattle.tables.specs.Things.{freshTables};
@@ -15,6 +16,7 @@ use crate::rows::no_tag;
 use crate::rows::no_thread;
 use crate::rows::office_thread;
 
+#[repr(C)]
 pub struct Tables {
     pub principals: u32,
     pub links: usize,

@@ -1,4 +1,5 @@
-// The rows of the tables, and the row of nothing.
+// The rows of the tables, each of plain numbers, so that a host can declare them and any bytes are a row; what a
+// row can say (`Rank`, `What`); and the row of nothing. What a row says is read in `says`.
 ghost use mathlib.Core.Path.{_≡_};
 ghost use Rattle.tables.specs.Things.{noLabels, noThread, officeThread, noTag, noObject};
 use numbers::Label;
@@ -9,9 +10,10 @@ use numbers::Principal;
 use numbers::Tag;
 
 // "Each has a principal, a secrecy label, an integrity label, and up to 8 principals put aside by calls":
-// the first `calls` of them, the last one put aside last.
+// the first `calls` of them, the last one put aside last. `live` is 1, or 0.
+#[repr(C)]
 pub struct ThreadRow {
-    pub live: bool,
+    pub live: u8,
     pub principal: Principal,
     pub labels: LabelPair,
     pub calls: usize,
@@ -24,13 +26,15 @@ pub enum Rank {
     SubtagOf(Tag),
 }
 
-// "Each tag has a root principal, its maker."
+// "Each tag has a root principal, its maker." `subtag` is 1 for a subtag of `supertag`, or 0.
+#[repr(C)]
 pub struct TagRow {
     pub root: Principal,
-    pub rank: Rank,
+    pub subtag: u8,
+    pub supertag: Tag,
 }
 
-// "of kind 0 cell, 1 queue, 2 lock": with how many messages a queue holds, and whether a lock is held.
+// What an object number stands for: with how many messages a queue holds, and whether a lock is held.
 pub enum What {
     Free,
     Cell,
@@ -38,9 +42,14 @@ pub enum What {
     Lock(bool),
 }
 
-// "each with two fixed labels"
+// "of kind 0 cell, 1 queue, 2 lock, each with two fixed labels". `live` is 1, or 0 for a number that is free; a
+// queue holds `held` messages; `locked` is 1 for a lock that is held, or 0.
+#[repr(C)]
 pub struct ObjectRow {
-    pub what: What,
+    pub live: u8,
+    pub kind: u8,
+    pub held: usize,
+    pub locked: u8,
     pub labels: LabelPair,
 }
 
@@ -59,7 +68,7 @@ pub fn no_thread() -> ThreadRow
 {
     let nobody = Principal(PUBLIC);
     ThreadRow {
-        live: false,
+        live: 0,
         principal: nobody,
         labels: no_labels(),
         calls: 0,
@@ -72,7 +81,7 @@ pub fn office_thread() -> ThreadRow
     ensures { λ r. ⌜ r ≡ officeThread ⌝ }
 {
     ThreadRow {
-        live: true,
+        live: 1,
         principal: Principal(OFFICE),
         labels: no_labels(),
         calls: 0,
@@ -86,7 +95,8 @@ pub fn no_tag() -> TagRow
 {
     TagRow {
         root: Principal(PUBLIC),
-        rank: Rank::Supertag,
+        subtag: 0,
+        supertag: Tag(0),
     }
 }
 
@@ -95,7 +105,10 @@ pub fn no_object() -> ObjectRow
     ensures { λ r. ⌜ r ≡ noObject ⌝ }
 {
     ObjectRow {
-        what: What::Free,
+        live: 0,
+        kind: 0,
+        held: 0,
+        locked: 0,
         labels: no_labels(),
     }
 }

@@ -1,6 +1,8 @@
 -- `decide_objects::decide_lock` meets its contract: the row's tests in its order. Assumes nothing.
+use mathlib.Core.Path.{ap, _∙_}
 use borrow.Author.Needs.{needs}
 use Rattle.numbers.proofs.Chain.{skip, hit, by-yes}
+use Rattle.tables.specs.Rows.{isLocked}
 use Rattle.decide_objects.specs.Objects.{lock}
 use Rattle.decide_objects.proofs.decide_lock.Statement.{statement}
 use Rattle.decide_objects.proofs.decide_lock.Tie as tie
@@ -12,7 +14,9 @@ decide-lock-spec =
     (tie.spec
     (λ c κs. search needs)
     (λ c κs. search needs)
-    (λ c. hit _ (by-yes (c .before .before .is-locked .ensures) (c .before .if1 .taken)) (c .refused .ensures))
+    (λ c κs. search needs)
+    (λ c. hit _ (by-yes (c .before .before .is-locked .ensures ∙ ap isLocked (c .before .before .before .what-of .ensures)) (c .before .if1 .taken)) (c .refused .ensures))
     (λ c κs. search needs)
     (λ c κs. search needs)
-    (λ c. skip _ (by-yes (c .before .before .before .is-locked .ensures) (c .before .before .if1 .left)) cc))
+    (λ c.
+    skip _ (by-yes (c .before .before .before .is-locked .ensures ∙ ap isLocked (c .before .before .before .before .what-of .ensures)) (c .before .before .if1 .left)) cc))

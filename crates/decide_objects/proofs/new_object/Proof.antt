@@ -14,6 +14,7 @@ new-object-spec =
     (λ c κs. search needs)
     (λ c. hit _ (le-leb (64) (c .before .before .args .s .free) (c .before .if1 .taken)) (c .refused .ensures))
     (λ c κs. search needs)
+    (λ c κs. search needs)
     (λ c. search needs)
     (λ c κs. search needs)
-    (λ c. skip _ (lt-leb (64) (c .before .before .before .args .s .free) (c .before .before .if1 .left)) cc))
+    (λ c. skip _ (lt-leb (64) (c .before .before .before .before .args .s .free) (c .before .before .before .if1 .left)) cc))

@@ -7,6 +7,7 @@ pub object-fits-spec : {M : Type 1} → statement M
 object-fits-spec =
     tie.close
     (tie.spec
+    (λ c κs. search needs)
     (λ c. search needs)
     (λ c. search needs)
     (λ c κs. search needs)

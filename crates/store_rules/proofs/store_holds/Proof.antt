@@ -8,6 +8,7 @@ use borrow.Author.Needs.{needs}
 use lib.ListN.{length}
 use Rattle.numbers.specs.Below.{allBelow}
 use Rattle.numbers.proofs.Passes.{mapped, none-passed, one-passed, all-passed}
+use Rattle.tables.specs.Rows.{whatOf}
 use Rattle.tables.specs.Things.{objectAt}
 use Rattle.tables.specs.declared.rows.ObjectRow.{ObjectRow}
 use Rattle.store_rules.specs.StoreRules.{placesUsed, objectHolds, storeHolds}
@@ -15,7 +16,7 @@ use Rattle.store_rules.proofs.store_holds.Statement.{statement}
 use Rattle.store_rules.proofs.store_holds.Tie as tie
 
 abbrev each : List ℕ → List ObjectRow → ℕ → Bool
-each s rows o = objectHolds s (o * 264) (placesUsed (objectAt rows o .what))
+each s rows o = objectHolds s (o * 264) (placesUsed (whatOf (objectAt rows o)))
 
 abbrev Inv-loop : tie.InvT-loop
 Inv-loop s rows ok₀ o₀ ok o = (o ≤ 64) × (length rows ≡ 64) × (ok ≡ allBelow o (each s rows))
@@ -35,16 +36,22 @@ store-holds-spec =
     (λ c. search needs)
     (λ c. omega arith)
     (λ c κs. search needs)
+    (λ c κs. search needs)
     (λ c κs.
-    let f = c .before .before .before .before .before in
-    let o = c .before .before .before .loop .o in
-    (omega (arith, f .pre .0), subst (λ (n : ℕ). n ≤ 8) (sym (c .places-used .ensures)) (f .pre .1 o (omega arith))))
+    let f = c .before .before .before .before .before .before in
+    let o = c .before .before .before .before .loop .o in
+    let used = c .places-used .ensures ∙ ap placesUsed (c .before .what-of .ensures) in
+    (omega (arith, f .pre .0), subst (λ (n : ℕ). n ≤ 8) (sym used) (f .pre .1 o (omega arith))))
     (λ c. omega arith)
     (λ c. omega arith)
     (λ c.
-    let a = c .before .before .before .before .before .before .args in
-    let at = c .before .before .before .before .loop in
-    (omega arith, at .inv .1, one-passed (each (a .s .now) (a .t2)) (at .o) (c .object-holds .ensures ∙ ap (objectHolds (a .s .now) (at .o * 264)) (c .before .places-used .ensures)) (at .inv .2)))
+    let a = c .before .before .before .before .before .before .before .args in
+    let at = c .before .before .before .before .before .loop in
+    let used = c .before .places-used .ensures ∙ ap placesUsed (c .before .before .what-of .ensures) in (
+      omega arith,
+      at .inv .1,
+      one-passed (each (a .s .now) (a .t2)) (at .o) (c .object-holds .ensures ∙ ap (objectHolds (a .s .now) (at .o * 264)) used) (at .inv .2),
+    ))
     (λ c.
     let a = c .before .before .before .args in
     let at = c .before .loop in

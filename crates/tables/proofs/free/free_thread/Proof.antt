@@ -5,6 +5,7 @@ use native.Mathlib.Omega.{arith}
 use borrow.Author.Needs.{needs}
 use lib.ListN.{length, drop}
 use Rattle.numbers.proofs.Passes.{mapped}
+use Rattle.numbers.proofs.Chain.{by-not}
 use Rattle.tables.specs.declared.rows.ThreadRow.{ThreadRow}
 use Rattle.tables.specs.Things.{pastThread}
 use Rattle.tables.specs.Free.{firstOf, notLive}
@@ -27,12 +28,13 @@ free-thread-spec =
     (λ c. (omega arith, search mapped depth 3, search needs))
     (λ c. search needs)
     (λ c. search needs)
+    (λ c κs. search needs)
     (λ c.
     let at = c .before .before .before .before in
-    sym (at .loop .inv .2 ∙ stops ThreadRow notLive pastThread (at .before .args .t1) (at .loop .i) (omega arith) (c .if1 .taken)))
+    sym (at .loop .inv .2 ∙ stops ThreadRow notLive pastThread (at .before .args .t1) (at .loop .i) (omega arith) (by-not (c .before .is-live .ensures) (c .if1 .taken))))
     (λ c. omega arith)
     (λ c. omega arith)
     (λ c.
     let at = c .before .before .before .before in
-    (omega arith, at .loop .inv .1, at .loop .inv .2 ∙ passes ThreadRow notLive pastThread (at .before .args .t1) (at .loop .i) (omega arith) (c .if1 .left)))
+    (omega arith, at .loop .inv .1, at .loop .inv .2 ∙ passes ThreadRow notLive pastThread (at .before .args .t1) (at .loop .i) (omega arith) (by-not (c .before .is-live .ensures) (c .if1 .left))))
     (λ c. let at = c .before in sym (at .loop .inv .2 ∙ ends ThreadRow notLive pastThread (at .before .args .t1) (at .loop .i) (omega arith))))

@@ -15,12 +15,11 @@ pub tag-row-spec : {M : Type 1} → statement M
 tag-row-spec =
     tie.close
     (tie.spec
-    (λ c. search needs)
     (λ c κs. search needs)
     (λ c.
-    let f = c .before .before .before in
+    let f = c .before .before in
     let n = fit f in
-    c .no-tag .ensures ∙ sym (List·getD-eq-default (f .args .t1) noTag {n = f .args .t .0} (omega arith)))
+    c .no-tag .ensures ∙ sym (List·getD-eq-default (f .args .t1) noTag {n = f .args .n} (omega arith)))
     (λ c. search needs)
     (λ c. search needs)
     (λ c. search needs))
