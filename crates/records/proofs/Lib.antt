@@ -1,5 +1,7 @@
 pub mod Appending
 pub mod Changing
+pub mod ClearLaws
+pub mod Clearing
 pub mod Closing
 pub mod Element
 pub mod FindLaws

@@ -2,7 +2,7 @@
 -- caller lends". A record stands for the number that the core gives its link (`links`, specs/Links). Assumes nothing.
 use mathlib.Core.List.{List, map, _++_}
 use Prim.Native.Nat.{ℕ, _*_, _/_, _%_}
-use lib.ListN.{length, take, drop}
+use lib.ListN.{length, take, drop, replicate}
 use Rattle.links.specs.Links.{linkNumber, appended, gapClosed}
 use Rattle.outcomes.specs.declared.ListChange.{ListChange}
 use Rattle.outcomes.specs.declared.ListChange.the-variants.{Keep, Append, Remove}
@@ -34,3 +34,7 @@ abbrev pub changed : {A : Type 0} → (ℕ → A) → ListChange → ℕ → Lis
 changed link Keep n ys = ys
 changed link (Append x) n ys = appended ys n (link x)
 changed link (Remove i) n ys = gapClosed (link 0) ys n i
+
+-- every place of ys is z: "Unused places are zero"
+abbrev pub cleared : {A : Type 0} → A → List A → List A
+cleared z ys = replicate (length ys) z

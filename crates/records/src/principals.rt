@@ -3,7 +3,7 @@ ghost use mathlib.Core.Path.{_≡_};
 ghost use mathlib.Core.List.{map};
 ghost use lib.ListN.{take, replicate};
 ghost use Rattle.links.specs.Links.{findIn, appended, gapClosed};
-ghost use Rattle.records.specs.Records.{principalNumber, principalLink, gathered, changed};
+ghost use Rattle.records.specs.Records.{principalNumber, principalLink, gathered, changed, cleared};
 use links::Found;
 use links::principal_link;
 use links::used;
@@ -11,6 +11,7 @@ use numbers::Principal;
 use outcomes::ListChange;
 
 // "Principal links (from, to)"
+#[repr(C)]
 pub struct PrincipalLink {
     pub from: Principal,
     pub to: Principal,
@@ -106,5 +107,17 @@ pub fn put_back(links: &mut [PrincipalLink], n: usize, c: ListChange)
         ListChange::Keep => (),
         ListChange::Append(x) => append(links, n, link_of(x)),
         ListChange::Remove(i) => remove(links, n, i),
+    }
+}
+
+// Every place becomes zero, however many there are.
+pub fn clear(links: &mut [PrincipalLink])
+    ensures { λ _. ⌜ now (links .exit) ≡ cleared (principalLink 0) (now (links .entry)) ⌝ }
+{
+    let zero = link_of(0);
+    let mut i = 0;
+    while i < links.len() {
+        links[i] = zero;
+        i += 1;
     }
 }

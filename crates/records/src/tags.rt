@@ -3,7 +3,7 @@ ghost use mathlib.Core.Path.{_≡_};
 ghost use mathlib.Core.List.{map};
 ghost use lib.ListN.{take, replicate};
 ghost use Rattle.links.specs.Links.{findIn, appended, gapClosed};
-ghost use Rattle.records.specs.Records.{tagNumber, tagLink, gathered, changed};
+ghost use Rattle.records.specs.Records.{tagNumber, tagLink, gathered, changed, cleared};
 use links::Found;
 use links::tag_link;
 use links::used;
@@ -12,6 +12,7 @@ use numbers::Tag;
 use outcomes::ListChange;
 
 // "tag links (tag, from, to)"
+#[repr(C)]
 pub struct TagLink {
     pub tag: Tag,
     pub from: Principal,
@@ -110,5 +111,17 @@ pub fn put_back(links: &mut [TagLink], n: usize, c: ListChange)
         ListChange::Keep => (),
         ListChange::Append(x) => append(links, n, link_of(x)),
         ListChange::Remove(i) => remove(links, n, i),
+    }
+}
+
+// Every place becomes zero, however many there are.
+pub fn clear(links: &mut [TagLink])
+    ensures { λ _. ⌜ now (links .exit) ≡ cleared (tagLink 0) (now (links .entry)) ⌝ }
+{
+    let zero = link_of(0);
+    let mut i = 0;
+    while i < links.len() {
+        links[i] = zero;
+        i += 1;
     }
 }

@@ -1,0 +1,13 @@
+pub mod Calling
+pub mod Copying
+pub mod Counting
+pub mod Params
+pub mod Parts
+pub mod Passing
+pub mod Plain
+pub mod Reading
+pub mod RowAt
+pub mod RowPut
+pub mod StateParts
+pub mod Storing
+pub mod Writing
