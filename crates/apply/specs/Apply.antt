@@ -1,5 +1,4 @@
 -- What a decision's changes do to the lists, the store and the rows (01, "Requests", the column "done"). Assumes nothing.
-use mathlib.Core.Bool.{true}
 use mathlib.Core.List.{List}
 use Prim.Native.Nat.{ℕ, _+_, _-_, _≤_, _<_}
 use lib.ListN.{length, getD, set, replicate}
@@ -80,7 +79,7 @@ labelled r l = record { live = r .live; principal = r .principal; labels = l; ca
 
 -- 0E: "copy of labels, principal P, nothing put aside"
 abbrev pub forked : ThreadRow → Principal → ThreadRow
-forked r p = record { live = true; principal = p; labels = r .labels; calls = 0; aside = replicate 8 nobody }
+forked r p = record { live = 1; principal = p; labels = r .labels; calls = 0; aside = replicate 8 nobody }
 
 -- 10: "caller put aside, runs as P"
 abbrev pub called : ThreadRow → Principal → ThreadRow
@@ -114,14 +113,16 @@ module _ (t : Tables) (n : ℕ) where
   applyRows rows.Return = withThread t n (backFrom own)
   applyRows (rows.Object o r) = withObject t o r
 
-  -- there is room for what is new, and what changes is there
+-- there is room for what is new, and what changes is there: so many principals and tags are made, and the caller has the number n and
+-- the row r
+module _ (principals tags n : ℕ) (r : ThreadRow) where
   abbrev pub RowFits : RowChange → Type 0
   RowFits rows.Keep = Unit
-  RowFits rows.NewPrincipal = t .principals < mostPrincipals
-  RowFits (rows.NewTag r) = t .tags < mostTags
+  RowFits rows.NewPrincipal = principals < mostPrincipals
+  RowFits (rows.NewTag x) = tags < mostTags
   RowFits (rows.Labels l) = n < mostThreads
   RowFits (rows.NewThread k p) = (k < mostThreads) × (n < mostThreads)
   RowFits rows.End = n < mostThreads
-  RowFits (rows.Call p) = (n < mostThreads) × (own .calls < mostPutAside)
-  RowFits rows.Return = (n < mostThreads) × (0 < own .calls) × (own .calls ≤ mostPutAside)
-  RowFits (rows.Object o r) = o < mostObjects
+  RowFits (rows.Call p) = (n < mostThreads) × (r .calls < mostPutAside)
+  RowFits rows.Return = (n < mostThreads) × (0 < r .calls) × (r .calls ≤ mostPutAside)
+  RowFits (rows.Object o x) = o < mostObjects

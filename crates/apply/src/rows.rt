@@ -1,65 +1,89 @@
-// The rows: one changes, or one is new.
+// The rows: what a change writes into the tables, at most one row of each and the counts.
 ghost use mathlib.Core.Path.{_≡_};
 ghost use Prim.Native.Nat.{_<_, _≤_};
-ghost use Rattle.tables.specs.Things.{threadAt};
-ghost use Rattle.apply.specs.Apply.{
-  withThread,
-  withPrincipal,
-  withTag,
-  withObject,
-  labelled,
-  forked,
-  called,
-  backFrom,
-  applyRows,
-  RowFits,
-};
+ghost use Rattle.apply.specs.Apply.{labelled, forked, called, backFrom, RowFits};
+ghost use Rattle.apply.specs.Writes.{noWrites, writesThread, writesTag, writesObject, writesPrincipal, rowWrites};
+use lent::Counts;
 use numbers::LabelPair;
+use numbers::OBJECTS;
 use numbers::PUBLIC;
 use numbers::Principal;
+use numbers::TAGS;
+use numbers::THREADS;
 use outcomes::RowChange;
-use tables::Tables;
 use tables::rows::ObjectRow;
 use tables::rows::TagRow;
 use tables::rows::ThreadRow;
+use tables::rows::no_object;
+use tables::rows::no_tag;
 use tables::rows::no_thread;
 
-fn with_thread(t: Tables, n: usize, row: ThreadRow) -> Tables
-    requires { ⌜ n < 16 ⌝ }
-    ensures { λ r. ⌜ r ≡ withThread t n row ⌝ }
-{
-    let mut u = t;
-    u.threads[n] = row;
-    u
+// A number past the last row writes none.
+pub struct Writes {
+    pub thread: usize,
+    pub thread_row: ThreadRow,
+    pub tag: usize,
+    pub tag_row: TagRow,
+    pub object: usize,
+    pub object_row: ObjectRow,
+    pub counts: Counts,
 }
 
-fn with_principal(t: Tables) -> Tables
-    requires { ⌜ t .principals < 64 ⌝ }
-    ensures { λ r. ⌜ r ≡ withPrincipal t ⌝ }
+// No row is written, and the counts are these.
+fn no_writes(c: Counts) -> Writes
+    ensures { λ r. ⌜ r ≡ noWrites c ⌝ }
 {
-    let mut u = t;
-    u.principals = t.principals + 1;
-    u
+    let thread_row = no_thread();
+    let tag_row = no_tag();
+    let object_row = no_object();
+    Writes {
+        thread: THREADS,
+        thread_row,
+        tag: TAGS,
+        tag_row,
+        object: OBJECTS,
+        object_row,
+        counts: c,
+    }
 }
 
-fn with_tag(t: Tables, row: TagRow) -> Tables
-    requires { ⌜ t .tags < 64 ⌝ }
-    ensures { λ r. ⌜ r ≡ withTag t row ⌝ }
+fn writes_thread(c: Counts, n: usize, row: ThreadRow) -> Writes
+    ensures { λ r. ⌜ r ≡ writesThread c n row ⌝ }
 {
-    let mut u = t;
-    let n = t.tags;
-    u.kinds[n as usize] = row;
-    u.tags = n + 1;
-    u
+    let mut w = no_writes(c);
+    w.thread = n;
+    w.thread_row = row;
+    w
 }
 
-fn with_object(t: Tables, o: usize, row: ObjectRow) -> Tables
-    requires { ⌜ o < 64 ⌝ }
-    ensures { λ r. ⌜ r ≡ withObject t o row ⌝ }
+fn writes_principal(c: Counts) -> Writes
+    requires { ⌜ c .principals < 64 ⌝ }
+    ensures { λ r. ⌜ r ≡ writesPrincipal c ⌝ }
 {
-    let mut u = t;
-    u.objects[o] = row;
-    u
+    let mut counts = c;
+    counts.principals = c.principals + 1;
+    no_writes(counts)
+}
+
+fn writes_tag(c: Counts, row: TagRow) -> Writes
+    requires { ⌜ c .tags < 64 ⌝ }
+    ensures { λ r. ⌜ r ≡ writesTag c row ⌝ }
+{
+    let mut counts = c;
+    counts.tags = c.tags + 1;
+    let mut w = no_writes(counts);
+    w.tag = c.tags as usize;
+    w.tag_row = row;
+    w
+}
+
+fn writes_object(c: Counts, o: usize, row: ObjectRow) -> Writes
+    ensures { λ r. ⌜ r ≡ writesObject c o row ⌝ }
+{
+    let mut w = no_writes(c);
+    w.object = o;
+    w.object_row = row;
+    w
 }
 
 fn labelled(row: ThreadRow, labels: LabelPair) -> ThreadRow
@@ -75,7 +99,7 @@ fn forked(row: ThreadRow, p: Principal) -> ThreadRow
 {
     let labels = row.labels;
     ThreadRow {
-        live: true,
+        live: 1,
         principal: p,
         labels,
         calls: 0,
@@ -111,28 +135,20 @@ fn back_from(row: ThreadRow) -> ThreadRow
     next
 }
 
-fn own_row(t: Tables, n: usize) -> ThreadRow
-    requires { ⌜ n < 16 ⌝ }
-    ensures { λ r. ⌜ r ≡ threadAt (t .threads) n ⌝ }
-{
-    let threads = t.threads;
-    threads[n]
-}
-
-// n is the caller's number.
-pub fn apply_rows(t: Tables, n: usize, c: RowChange) -> Tables
-    requires { ⌜ RowFits t n c ⌝ }
-    ensures { λ r. ⌜ r ≡ applyRows t n c ⌝ }
+// The caller has the number n and the row `own`.
+pub fn row_writes(n: usize, own: ThreadRow, counts: Counts, c: RowChange) -> Writes
+    requires { ⌜ RowFits (counts .principals) (counts .tags) n own c ⌝ }
+    ensures { λ r. ⌜ r ≡ rowWrites n own counts c ⌝ }
 {
     match c {
-        RowChange::Keep => t,
-        RowChange::NewPrincipal => with_principal(t),
-        RowChange::NewTag(r) => with_tag(t, r),
-        RowChange::Labels(l) => with_thread(t, n, labelled(own_row(t, n), l)),
-        RowChange::NewThread(k, p) => with_thread(t, k, forked(own_row(t, n), p)),
-        RowChange::End => with_thread(t, n, no_thread()),
-        RowChange::Call(p) => with_thread(t, n, called(own_row(t, n), p)),
-        RowChange::Return => with_thread(t, n, back_from(own_row(t, n))),
-        RowChange::Object(o, r) => with_object(t, o, r),
+        RowChange::Keep => no_writes(counts),
+        RowChange::NewPrincipal => writes_principal(counts),
+        RowChange::NewTag(r) => writes_tag(counts, r),
+        RowChange::Labels(l) => writes_thread(counts, n, labelled(own, l)),
+        RowChange::NewThread(k, p) => writes_thread(counts, k, forked(own, p)),
+        RowChange::End => writes_thread(counts, n, no_thread()),
+        RowChange::Call(p) => writes_thread(counts, n, called(own, p)),
+        RowChange::Return => writes_thread(counts, n, back_from(own)),
+        RowChange::Object(o, r) => writes_object(counts, o, r),
     }
 }

@@ -13,6 +13,7 @@ use Rattle.numbers.specs.declared.Tag.{Tag}
 use Rattle.numbers.proofs.Bools.{and-both, never, by-test}
 use Rattle.links.proofs.LinkLaws.{found-used}
 use Rattle.link_rules.proofs.RuleLaws.{LinksHold}
+use Rattle.tables.specs.Rows.{rankOf, tagRow}
 use Rattle.tables.specs.declared.rows.TagRow.{TagRow}
 use Rattle.tables.specs.declared.rows.Rank.{Rank}
 use Rattle.tables.specs.declared.rows.Rank.the-variants.{Supertag, SubtagOf}
@@ -82,7 +83,7 @@ module _ (w : World) (holds : WorldHolds w) (sized : SizedWorld w) (f : List ℕ
       }
 
   -- a tag more, made by who asks
-  tag-made : (r : Rank) → w .tables .tags < mostTags → asker .0 < w .tables .principals → (asker .0 ≡ public → ⊥) → rankHolds (w .tables .kinds) (w .tables .tags) r ≡ true → WorldHolds (worldOf (withTag (w .tables) (record { root = asker; rank = r })) (w .links) (w .grants) (w .store))
+  tag-made : (r : Rank) → w .tables .tags < mostTags → asker .0 < w .tables .principals → (asker .0 ≡ public → ⊥) → rankHolds (w .tables .kinds) (w .tables .tags) r ≡ true → WorldHolds (worldOf (withTag (w .tables) (tagRow asker r)) (w .links) (w .grants) (w .store))
   tag-made r room made other ranked =
       record {
         links = holds .links;
@@ -90,7 +91,7 @@ module _ (w : World) (holds : WorldHolds w) (sized : SizedWorld w) (f : List ℕ
         two = holds .two;
         links-unused = holds .links-unused;
         grants-unused = holds .grants-unused;
-        tags = tag-added (record { root = asker; rank = r }) (holds .tags) (sized .kinds) room made other ranked;
+        tags = tag-added asker r (holds .tags) (sized .kinds) room made other ranked;
         threads = threads-more (holds .threads) (omega arith) (omega arith);
         objects = objects-more (holds .objects) (omega arith);
         whole = holds .whole;
@@ -134,7 +135,7 @@ module _ (w : World) (holds : WorldHolds w) (sized : SizedWorld w) (f : List ℕ
     authority-keeps (comes.tells-acts-for b) = by-test (λ o. WorldHolds (applied w f o)) b (λ e. holds) (λ e. holds)
     authority-keeps (comes.makes-tag a room) = tag-made Supertag room made (not-public asker a) refl
     authority-keeps (comes.makes-subtag {t} a b c room) =
-        tag-made (SubtagOf t) room made (other c) (and-both (ltb (t .0) (w .tables .tags)) (rank.isSupertag (tagAt (w .tables .kinds) (t .0) .rank)) a (seen-supertag (w .tables .kinds) t (tagAt (w .tables .kinds) (t .0) .rank) b))
+        tag-made (SubtagOf t) room made (other c) (and-both (ltb (t .0) (w .tables .tags)) (rank.isSupertag (rankOf (tagAt (w .tables .kinds) (t .0)))) a (seen-supertag (w .tables .kinds) t (rankOf (tagAt (w .tables .kinds) (t .0))) b))
     authority-keeps (comes.had-grant a) = holds
     authority-keeps (comes.gives-grant {t} {p} {q} a b c h d e i room) =
         grants-changed _ _

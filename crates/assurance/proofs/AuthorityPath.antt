@@ -18,6 +18,7 @@ use Rattle.links.specs.Links.{linksIn}
 use Rattle.links.specs.Authority.{ActsForSome, Authoritative, authoritative}
 use Rattle.links.proofs.PathLaws.{path-grows}
 use Rattle.links.proofs.AuthorityLaws.{RootsMade, authoritative-is}
+use Rattle.tables.specs.Rows.{rankOf, isSubtag, supertagIn}
 use Rattle.tables.specs.declared.Tables.{Tables}
 use Rattle.tables.specs.declared.rows.Rank.{Rank}
 use Rattle.tables.specs.declared.rows.Rank.the-variants.{Supertag, SubtagOf}
@@ -40,7 +41,7 @@ use Rattle.assurance.proofs.Reference.{answers-as-walk, enters-step}
 use Rattle.assurance.proofs.Kept.{cleared-sound, next-sound}
 use Rattle.assurance.proofs.Fresh.{fresh-sound}
 use Rattle.assurance.proofs.LeafLists.{Same, same-back}
-use Rattle.assurance.proofs.Knows.{subtagIn, aboveIn, Knows, fresh-known}
+use Rattle.assurance.proofs.Knows.{Knows, fresh-known}
 use Rattle.assurance.proofs.LeavesKept.{outcome-learns}
 
 -- ---- paths
@@ -74,7 +75,7 @@ module _ (k : Known) (w : World) (holds : WorldHolds w) (knows : Knows k w) (p :
   abbrev Reached : Tag → Bool → ℕ → Type 0
   Reached u isSubtag above = PathFrom k (u .0) (p .0) ⊎ ((isSubtag ≡ true) × PathFrom k above (p .0))
 
-  by-rank : (u : Tag) → u .0 < t .tags → (r : Rank) → supertagMade (t .tags) r ≡ true → Walked u r ↔ Reached u (subtagIn r) (aboveIn r)
+  by-rank : (u : Tag) → u .0 < t .tags → (r : Rank) → supertagMade (t .tags) r ≡ true → Walked u r ↔ Reached u (isSubtag r) (supertagIn r .0)
   by-rank u low Supertag e =
       let own = own-path (u .0) low in
       (λ x. inl (own .1 x), λ x. ⊎-elim (own .0) (λ y. absurd (never (y .0) refl)) x)
@@ -94,7 +95,7 @@ module _ (k : Known) (w : World) (holds : WorldHolds w) (knows : Knows k w) (p :
   -- the walk says yes exactly where the leaves reach
   walk-reaches : (u : Tag) → u .0 < t .tags → (authoritative between (w .grants) (t .grants) (lineageOf (t .kinds) u) p ≡ true) ↔ LeavesReach k (u .0) (p .0)
   walk-reaches u low =
-      let r = tagAt (t .kinds) (u .0) .rank in
+      let r = rankOf (tagAt (t .kinds) (u .0)) in
       let made = holds .tags .supertags (u .0) low in
       let walk = authoritative-is between (w .grants) (t .grants) (lineageBy (t .kinds) u r) p (roots-made u low r made) in
       let reach = subst (λ (m : Made). Walked u r ↔ Reached u (m .isSubtag) (m .above)) (sym (knows .tags (u .0) low)) (by-rank u low r made) in

@@ -36,7 +36,7 @@ use Rattle.decide.proofs.AuthorityComes as authority
 use Rattle.decide.proofs.ThreadComes as thread
 use Rattle.decide.proofs.ObjectComes as object
 use Rattle.step.specs.World.{worldOf, applied}
-use Rattle.step.specs.Step.{After, unlessStopped, seen, asked, outcome, remembers, stepped}
+use Rattle.step.specs.Step.{After, unlessStopped, seen, asked, outcomeBy, outcome, remembers, stepped}
 use Rattle.step.proofs.Ind.{outcome-ind}
 use Rattle.monitor.specs.Monitor.{shortestBuffer, noRoom, broken, requested}
 use Rattle.monitor.proofs.Entering.{when-short, when-broken, when-sound}
@@ -67,7 +67,7 @@ module _ (t : Tables) (l g f : List ℕ) (allowed : Bool) where
   outcome-number :
       statusOf (outcome t l g f allowed .answer)
       ≡ cond (not (wellFormed f)) 1 (cond (not (s .caller .live)) 2 (cond (not (named s (requestOf f))) 3 (cond (not (flows s (kindOf f) (requestOf f))) 4 (statusOf (row .answer)))))
-  unfolding outcome prelude
+  unfolding outcomeBy prelude
   outcome-number =
       over-cond (λ (o : Outcome). statusOf (o .answer)) (not (wellFormed f)) (refused Malformed) (unlessStopped (prelude s (kindOf f) (requestOf f)) row)
       ∙ ap (cond (not (wellFormed f)) 1)

@@ -1,5 +1,5 @@
 -- The fresh machine breaks no rule. Assumes nothing.
-use mathlib.Core.Path.{_≡_, refl, _∙_}
+use mathlib.Core.Path.{_≡_, refl, ap, _∙_}
 use Prim.Native.Nat.{ℕ, _≤_, _<_}
 use native.Mathlib.Omega.{arith}
 use lib.ListN.{replicate, length-replicate, getD-replicate}
@@ -11,7 +11,9 @@ use Rattle.links.specs.Paths.{joins}
 use Rattle.links.specs.Links.{linksFrom, findFrom}
 use Rattle.store.specs.Store.{storeSize, byteAt}
 use Rattle.store_rules.specs.StoreRules.{placesUsed}
+use Rattle.tables.specs.Rows.{whatOf}
 use Rattle.tables.specs.Things.{noTag, noObject, objectAt, freshTables}
+use Rattle.tables.proofs.Said.{no-object-says}
 use Rattle.state.specs.Start.{emptyMemory}
 use Rattle.link_rules.proofs.RuleLaws.{LinksHold}
 use Rattle.row_rules.specs.RowRules.{threadsHold, threadHolds, asideMade, asideUnused, objectsHold, objectHolds}
@@ -39,11 +41,11 @@ zero-places : (n i : ℕ) → i < n → byteAt (replicate n 0) i ≡ 0
 zero-places n i h = getD-replicate n i 0 0 h
 
 -- no object uses a place
-no-places : (o : ℕ) → o < mostObjects → placesUsed (objectAt (replicate mostObjects noObject) o .what) ≡ 0
-no-places o h = rw (getD-replicate mostObjects o noObject noObject h) refl
+no-places : (o : ℕ) → o < mostObjects → placesUsed (whatOf (objectAt (replicate mostObjects noObject) o)) ≡ 0
+no-places o h = rw (getD-replicate mostObjects o noObject noObject h) (ap placesUsed no-object-says)
 
 fresh-holds : (places bytes : ℕ) → places ≡ linkPlaces → bytes ≡ storeSize → WorldHolds (worldOf freshTables (replicate places 0) (replicate places 0) (replicate bytes 0))
-unfolding threadsHold threadHolds asideMade asideUnused objectsHold objectHolds allBelow namesOnlyMade
+unfolding threadsHold threadHolds asideMade asideUnused whatOf objectsHold objectHolds allBelow namesOnlyMade
 fresh-holds places bytes whole all =
     record {
       links = no-links places 1 whole (omega arith);
@@ -54,10 +56,12 @@ fresh-holds places bytes whole all =
       tags =
           record {
             limit = omega arith;
+            limits = λ i h. absurd (omega arith);
             roots = λ i h. absurd (omega arith);
             supertags = λ i h. absurd (omega arith);
             public-roots = λ i h e. omega arith;
             ranks = λ i h. absurd (omega arith);
+            supertags-unused = λ i h. absurd (omega arith);
             unused = λ i h k. rw (getD-replicate 64 i noTag noTag k) refl;
           };
       threads = threadsHold-is 2 0 (freshTables .threads) .0 refl;

@@ -18,6 +18,7 @@ use Rattle.links.specs.Links.{appended}
 use Rattle.links.proofs.ListLaws.{appended-among}
 use Rattle.links.proofs.AuthorityLaws.{authoritative-grows}
 use Rattle.memory_rules.specs.MemoryRules.{pairMade}
+use Rattle.tables.specs.Rows.{rankOf}
 use Rattle.tables.specs.declared.rows.TagRow.{TagRow}
 use Rattle.tables.specs.declared.rows.Rank.{Rank}
 use Rattle.tables.specs.declared.rows.Rank.the-variants.{Supertag, SubtagOf}
@@ -48,10 +49,10 @@ module _ (kinds : List TagRow) (n : ℕ) (row : TagRow) where
       let below = supertag-earlier kinds (t .0) u ranked in
       ap₂ lineage.Subtag (root-same t low) (root-same u (omega (arith, below, low)))
 
-  lineage-same : (t : Tag) → t .0 < n → rankHolds kinds (t .0) (tagAt kinds (t .0) .rank) ≡ true → lineageOf (set kinds n row) t ≡ lineageOf kinds t
+  lineage-same : (t : Tag) → t .0 < n → rankHolds kinds (t .0) (rankOf (tagAt kinds (t .0))) ≡ true → lineageOf (set kinds n row) t ≡ lineageOf kinds t
   lineage-same t low ranked =
-      ap (λ (r : TagRow). lineageBy (set kinds n row) t (r .rank)) (getD-set-other kinds n (t .0) row noTag (λ e. omega arith))
-      ∙ by-rank t (tagAt kinds (t .0) .rank) low ranked
+      ap (λ (r : TagRow). lineageBy (set kinds n row) t (rankOf r)) (getD-set-other kinds n (t .0) row noTag (λ e. omega arith))
+      ∙ by-rank t (rankOf (tagAt kinds (t .0))) low ranked
 
 -- ---- what the walk says of a pair
 

@@ -1,6 +1,6 @@
 -- What the requests and their answers say is what the world holds: its links, its tags and who its threads run as. Assumes nothing.
 use mathlib.Core.Path.{_≡_, refl, sym, ap, ap₂, subst, _∙_}
-use mathlib.Core.Bool.{Bool, true, false}
+use mathlib.Core.Bool.{true}
 use mathlib.Core.List.{List, [], _∷_}
 use mathlib.Core.Logic.{⊎-elim}
 use Prim.Native.Nat.{ℕ, zero, suc, _+_, _-_, _≤_, _<_}
@@ -14,10 +14,9 @@ use Rattle.numbers.specs.Numbers.{mostPutAside}
 use Rattle.numbers.specs.declared.Principal.{Principal}
 use Rattle.numbers.proofs.Bools.{either, never}
 use Rattle.links.specs.Links.{linksFrom}
+use Rattle.tables.specs.Rows.{isLive, rankOf, isSubtag, supertagIn}
 use Rattle.tables.specs.declared.rows.ThreadRow.{ThreadRow}
 use Rattle.tables.specs.declared.rows.TagRow.{TagRow}
-use Rattle.tables.specs.declared.rows.Rank.{Rank}
-use Rattle.tables.specs.declared.rows.Rank.the-variants.{Supertag, SubtagOf}
 use Rattle.tables.specs.Things.{nobody, noThread, noTag, pastThread, threadAt, tagAt, freshTables}
 use Rattle.tables.proofs.Among.{live-among}
 use Rattle.row_rules.specs.RowRules.{asideAt}
@@ -30,18 +29,9 @@ use Rattle.assurance.proofs.LeafLists.{Same}
 
 -- ---- what a row says
 
--- whether a tag of this rank is a subtag, and of which
-abbrev pub subtagIn : Rank → Bool
-subtagIn Supertag = false
-subtagIn (SubtagOf t) = true
-
-abbrev pub aboveIn : Rank → ℕ
-aboveIn Supertag = 0
-aboveIn (SubtagOf t) = t .0
-
 -- who made a tag and what it is
 abbrev pub madeBy : TagRow → Made
-madeBy r = record { maker = r .root .0; isSubtag = subtagIn (r .rank); above = aboveIn (r .rank) }
+madeBy r = record { maker = r .root .0; isSubtag = isSubtag (rankOf r); above = supertagIn (rankOf r) .0 }
 
 -- the first c put aside, the last one first
 unfoldable pub putAside : List Principal → ℕ → List ℕ
@@ -63,7 +53,7 @@ TagsTold known tags rows = (t : ℕ) → t < tags → known t ≡ madeBy (tagAt 
 
 -- of each live thread, who it runs as
 abbrev pub RunsTold : (ℕ → List ℕ) → List ThreadRow → Type 0
-RunsTold known rows = (n : ℕ) → threadAt rows n .live ≡ true → Ran (known n) (threadAt rows n)
+RunsTold known rows = (n : ℕ) → isLive (threadAt rows n .live) ≡ true → Ran (known n) (threadAt rows n)
 
 -- ---- the whole; a principal link is one of tag 0
 
@@ -81,7 +71,7 @@ unfolding putAside
 fresh-runs zero live = record { list = refl; places = refl }
 fresh-runs (suc n) live =
     let low = live-among (freshTables .threads) (suc n) live in
-    absurd (never live (ap (λ (r : ThreadRow). r .live) (getD-replicate 15 n noThread pastThread (omega arith))))
+    absurd (never live (ap (λ (r : ThreadRow). isLive (r .live)) (getD-replicate 15 n noThread pastThread (omega arith))))
 
 -- there is nothing else to know
 pub fresh-known : (size : ℕ) → Knows atFirst (fresh size .world)
@@ -122,16 +112,16 @@ module _ (known : ℕ → List ℕ) (rows : List ThreadRow) (n : ℕ) (r : Threa
   rowAt j = threadAt (set rows n r) j
 
   -- a thread's row is another, and what is known of it
-  pub runs-known : (l : List ℕ) → (r .live ≡ true → Ran l r) → RunsTold (changed known n l) (set rows n r)
+  pub runs-known : (l : List ℕ) → (isLive (r .live) ≡ true → Ran l r) → RunsTold (changed known n l) (set rows n r)
   runs-known l new =
-      by-number (λ j. rowAt j .live ≡ true → Ran (changed known n l j) (rowAt j)) n
+      by-number (λ j. isLive (rowAt j .live) ≡ true → Ran (changed known n l j) (rowAt j)) n
       (rw (changed-own known n l, getD-set-same rows n r pastThread room) new)
       (λ j apart. rw (changed-other known n l j apart, getD-set-other rows n j r pastThread apart) (old j))
 
   -- who it runs as stays
-  pub runs-stay : (r .live ≡ true → Ran (known n) r) → RunsTold known (set rows n r)
+  pub runs-stay : (isLive (r .live) ≡ true → Ran (known n) r) → RunsTold known (set rows n r)
   runs-stay new =
-      by-number (λ j. rowAt j .live ≡ true → Ran (known j) (rowAt j)) n
+      by-number (λ j. isLive (rowAt j .live) ≡ true → Ran (known j) (rowAt j)) n
       (rw (getD-set-same rows n r pastThread room) new) (λ j apart. rw (getD-set-other rows n j r pastThread apart) (old j))
 
 -- ---- calls

@@ -7,6 +7,7 @@ use lib.ListN.{length}
 use Rattle.numbers.specs.declared.Tag.{Tag}
 use Rattle.numbers.specs.declared.flow.LabelPair.{LabelPair}
 use Rattle.links.specs.Paths.{Link}
+use Rattle.tables.specs.Rows.{isLive}
 use Rattle.tables.specs.declared.Tables.{Tables}
 use Rattle.tables.specs.declared.rows.ThreadRow.{ThreadRow}
 use Rattle.tables.specs.declared.rows.TagRow.{TagRow}
@@ -69,7 +70,7 @@ module _ {k : Known} {w : World} (knows : Knows k w) where
   module _ (n : ℕ) (room : n < length (t .threads)) where
     -- another row of thread n, and what is known of it
     pub row-learnt :
-        (r : ThreadRow) (l : List ℕ) → (r .live ≡ true → Ran l r) →
+        (r : ThreadRow) (l : List ℕ) → (isLive (r .live) ≡ true → Ran l r) →
         Knows (withRuns k 0 0 n l) (worldOf (withThread t n r) (w .links) (w .grants) (w .store))
     row-learnt r l ran =
         record {

@@ -10,6 +10,7 @@ use lib.ListN.{length, getD}
 use Rattle.numbers.specs.declared.Principal.{Principal}
 use Rattle.numbers.specs.declared.Tag.{Tag}
 use Rattle.numbers.proofs.Bools.{and-left, and-right, by-test, never}
+use Rattle.tables.specs.Rows.{isLive, rankOf}
 use Rattle.tables.specs.declared.Tables.{Tables}
 use Rattle.tables.specs.declared.rows.ThreadRow.{ThreadRow}
 use Rattle.tables.specs.Things.{noThread, threadAt}
@@ -94,7 +95,7 @@ module _ (k : Known) (w : World) (holds : WorldHolds w) (sized : SizedWorld w) (
 
   -- ---- the caller is live
 
-  module _ (live : own .live ≡ true) where
+  module _ (live : isLive (own .live) ≡ true) where
     -- its row is one of those there are
     low : n < length (t .threads)
     low = live-among (t .threads) n live
@@ -146,6 +147,7 @@ module _ (k : Known) (w : World) (holds : WorldHolds w) (sized : SizedWorld w) (
         {allowed : Bool} {r : AuthorityRequest} {o : Outcome} →
         authority.AuthorityComes (sees (OfAuthority r)) (w .links) (w .grants) allowed r o → authorityNamed (sees (OfAuthority r)) r ≡ true →
         Learns (OfAuthority r) o
+    unfolding rankOf
     authority-learns {r = r} (authority.stops x) there = refused-learns (OfAuthority r) x
     authority-learns (authority.makes-principal b few room) there =
         let made : own .principal .0 < 64 = omega (arith, caller-made w holds sized f live, few) in

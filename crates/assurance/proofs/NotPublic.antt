@@ -19,6 +19,7 @@ use Rattle.links.specs.Authority.{linksOf, actsForSome, authoritative}
 use Rattle.links.proofs.LinkLaws.{joins-number}
 use Rattle.links.proofs.AuthorityLaws.{public-has-none}
 use Rattle.link_rules.specs.LinkRules.{at, toIn}
+use Rattle.tables.specs.Rows.{rankOf}
 use Rattle.tables.specs.declared.rows.Rank.{Rank}
 use Rattle.tables.specs.declared.rows.Rank.the-variants.{Supertag, SubtagOf}
 use Rattle.tables.specs.Things.{tagAt, rootedAt, lineageBy, lineageOf}
@@ -53,4 +54,4 @@ module _ (w : World) (holds : WorldHolds w) where
       ap₂ _||_ (node-not-public t made p e) (node-not-public u (omega (arith, made, low)) p e)
 
   pub allowed-not-public : (t : Tag) → t .0 < w .tables .tags → (p : Principal) → authoritative (linksIn (w .links) (w .tables .links) Principals) (w .grants) (w .tables .grants) (lineageOf (w .tables .kinds) t) p ≡ true → p .0 ≡ public → ⊥
-  allowed-not-public t made p allowed e = never allowed (by-rank t (tagAt (w .tables .kinds) (t .0) .rank) made (holds .tags .ranks (t .0) made) p e)
+  allowed-not-public t made p allowed e = never allowed (by-rank t (rankOf (tagAt (w .tables .kinds) (t .0))) made (holds .tags .ranks (t .0) made) p e)

@@ -9,14 +9,16 @@ use lib.ListN.{length, set}
 use Rattle.numbers.specs.Numbers.{mostObjects, mostQueued, longestMessage}
 use Rattle.numbers.specs.declared.Object.{Object}
 use Rattle.numbers.specs.declared.flow.LabelPair.{LabelPair}
+use Rattle.numbers.proofs.Bools.{and-right}
 use Rattle.store.specs.Store.{storeSize}
 use Rattle.store.proofs.Over.{part-length}
+use Rattle.tables.specs.Rows.{isFree, whatOf, objectRow}
 use Rattle.tables.specs.declared.Tables.{Tables}
 use Rattle.tables.specs.declared.rows.ObjectRow.{ObjectRow}
 use Rattle.tables.specs.declared.rows.What.{What}
 use Rattle.tables.specs.declared.rows.What.the-variants as what
 use Rattle.tables.specs.Things.{noObject, objectAt}
-use Rattle.tables.specs.Free.{isFree, freeObject}
+use Rattle.tables.specs.Free.{freeObject}
 use Rattle.tables.proofs.Among.{used-among}
 use Rattle.tables.proofs.First.{first-is}
 use Rattle.frames.specs.Requests.{threadOf}
@@ -29,14 +31,14 @@ use Rattle.frames.proofs.Spans.{SpanFits, ObjectSpans}
 use Rattle.answers.specs.Answers.{givenBy}
 use Rattle.sight.specs.Sight.{sightOf}
 use Rattle.outcomes.specs.declared.Outcome.{Outcome}
-use Rattle.row_rules.specs.RowRules.{labelsMade, whatInLimits}
+use Rattle.row_rules.specs.RowRules.{labelsMade, whatInLimits, objectNumbersInLimits}
 use Rattle.row_rules.proofs.RuleLaws.{ObjectsHold}
 use Rattle.store_rules.proofs.RuleLaws.{StoreHolds}
 use Rattle.decide_objects.specs.Objects.{emptyOf}
 use Rattle.decide.proofs.ObjectComes as comes
 use Rattle.apply.specs.Apply.{withObject}
 use Rattle.step.specs.World.{World, worldOf, applied}
-use Rattle.kept.proofs.ObjectsKept.{object-set, object-changed}
+use Rattle.kept.proofs.ObjectsKept.{object-freed, object-put, object-changed}
 use Rattle.kept.proofs.StoreKept.{store-new, store-freed, store-written, store-put, store-taken, store-locked, store-whole-put, store-whole-taken, store-whole-freed}
 use Rattle.kept.proofs.LabelsKept.{labels-are}
 use Rattle.assurance.proofs.Worlds.{WorldHolds, SizedWorld}
@@ -69,7 +71,7 @@ module _ (w : World) (holds : WorldHolds w) (sized : SizedWorld w) (f : List ℕ
   s = w .store
 
   -- an object in use is one of the 64
-  in-use : (o : Object) (x : What) → objectAt rows (o .0) .what ≡ x → isFree x ≡ false → o .0 < mostObjects
+  in-use : (o : Object) (x : What) → whatOf (objectAt rows (o .0)) ≡ x → isFree x ≡ false → o .0 < mostObjects
   in-use o x e used = omega (arith, used-among rows (o .0) (rw e used), sized .objects)
 
   -- the rows of objects and the store change; the rest stays
@@ -93,12 +95,11 @@ module _ (w : World) (holds : WorldHolds w) (sized : SizedWorld w) (f : List ℕ
   -- 12
   object-made :
       (k : ObjectKind) (l : LabelPair) → labelsMade (w .tables .tags) l ≡ true → freeObject rows < mostObjects →
-      WorldHolds (worldOf (withObject (w .tables) (freeObject rows) (record { what = emptyOf k; labels = l })) (w .links) (w .grants) s)
+      WorldHolds (worldOf (withObject (w .tables) (freeObject rows) (objectRow (emptyOf k) l)) (w .links) (w .grants) s)
   object-made k l made room =
-      let r : ObjectRow = record { what = emptyOf k; labels = l } in
-      let free = first-is ObjectRow (λ (x : ObjectRow). isFree (x .what)) noObject rows (omega (arith, room, sized .objects)) in
-      objects-changed (set rows (freeObject rows) r) s
-      (object-set (holds .objects) (freeObject rows) r (new-fits k) (rw (new-used k) made) (rw (new-used k) refl))
+      let free = first-is ObjectRow (λ (x : ObjectRow). isFree (whatOf x)) noObject rows (omega (arith, room, sized .objects)) in
+      objects-changed (set rows (freeObject rows) (objectRow (emptyOf k) l)) s
+      (object-put (holds .objects) (freeObject rows) (emptyOf k) l (new-used k) (new-fits k) made)
       (holds .whole)
       (store-new (sized .objects) (holds .whole) (holds .store) room (emptyOf k) l free)
 
@@ -107,7 +108,7 @@ module _ (w : World) (holds : WorldHolds w) (sized : SizedWorld w) (f : List ℕ
   object-keeps spans (comes.makes {k} {l} a b free) = object-made k l (labels-are (w .tables .tags) l .1 (a, b)) free
   object-keeps spans (comes.deletes {o} used) =
       let low = in-use o _ refl used in
-      objects-changed _ _ (object-set (holds .objects) (o .0) noObject refl refl refl) (store-whole-freed s (holds .whole) low) (store-freed (sized .objects) (holds .whole) (holds .store) low)
+      objects-changed _ _ (object-freed (holds .objects) (o .0)) (store-whole-freed s (holds .whole) low) (store-freed (sized .objects) (holds .whole) (holds .store) low)
   object-keeps spans (comes.reads e) = holds
   object-keeps spans (comes.writes {o} {m} e) =
       let low = in-use o what.Cell e refl in
@@ -123,7 +124,8 @@ module _ (w : World) (holds : WorldHolds w) (sized : SizedWorld w) (f : List ℕ
       (store-put (sized .objects) (holds .whole) (holds .store) low (givenBy f m) (objectAt rows (o .0) .labels) e room short)
   object-keeps spans (comes.gets {o} held e some) =
       let low = in-use o (what.Queue held) e refl in
-      let fits = leb-true held mostQueued (rw e at (holds .objects .limits (o .0) low)) in
+      let limits = and-right (objectNumbersInLimits (objectAt rows (o .0))) _ (holds .objects .limits (o .0) low) in
+      let fits = leb-true held mostQueued (rw e at limits) in
       objects-changed _ _
       (object-changed (holds .objects) (what.Queue (held - 1)) low (rw e refl) refl (le-leb (held - 1) mostQueued (omega (arith, fits))))
       (store-whole-taken s (holds .whole) low)

@@ -10,6 +10,7 @@ use Rattle.numbers.proofs.Bools.{and-left, and-right, implies, never, by-test}
 use Rattle.links.specs.declared.lists.Graph.the-variants.{Principals}
 use Rattle.links.specs.Links.{linksIn}
 use Rattle.links.specs.Authority.{authoritative}
+use Rattle.tables.specs.Rows.{isLive}
 use Rattle.tables.specs.declared.Tables.{Tables}
 use Rattle.tables.specs.Things.{threadAt, lineageOf}
 use Rattle.tables.proofs.Among.{live-among}
@@ -83,7 +84,7 @@ module _ (z : Machine) (sound : Sound z) (f : List ℕ) where
         let r = threadAt (t .threads) n in
         let low : n < mostThreads = omega (arith, live-among (t .threads) n (gives .0), sound .sized .threads) in
         ltb-true (r .principal .0) (t .principals)
-        (and-left _ (labelsMade (t .tags) (r .labels) && asideMade (t .principals) (r .aside) (r .calls)) (implies (r .live) _ (sound .rules .made .threads n low) (gives .0)))
+        (and-left _ (labelsMade (t .tags) (r .labels) && asideMade (t .principals) (r .aside) (r .calls)) (implies (isLive (r .live)) _ (sound .rules .made .threads n low) (gives .0)))
 
     pub tag-made : tagNamed (requestOf f) .0 < t .tags
     tag-made = ltb-true _ (t .tags) (asks-made s (requestOf f) (and-right (passes (checked t (z .world .links) (z .world .grants) f)) (asks s (requestOf f)) (and-right (wellFormed f) _ reached)) (gives .1))

@@ -14,10 +14,11 @@ use Rattle.numbers.specs.Below.{allBelow, anyBelow, countBelow}
 use Rattle.numbers.specs.Labels.{within, withTag, withoutTag, union, namesOnlyMade, size}
 use Rattle.numbers.specs.Sets.{setOf}
 use Rattle.prelude.specs.Prelude.{prelude}
-use Rattle.step.specs.Step.{outcome}
+use Rattle.step.specs.Step.{outcomeBy}
+use Rattle.tables.specs.Rows.{rankOf, whatOf}
 use Rattle.tables.specs.Free.{firstOf}
 use Rattle.assurance.specs.Cases.{AllCases, allHold, runsTo, same}
 
 pub all-cases : AllCases
-unfolding allHold runsTo same newPrincipal delegate revoke tellsActsFor tagIfRoom newTag newSubtag grant ungrant newObject put get lock outOfSecrecy intoIntegrity returned fork call needOf fixedLength lengthByte authorityRequest threadRequest objectRequest outsideRequest wellFormed requestBy actsForSome everyLink noCycle linksFrom findFrom gapClosed joins leads without remembered allBelow anyBelow countBelow within withTag withoutTag union namesOnlyMade size setOf prelude outcome firstOf
+unfolding allHold runsTo same newPrincipal delegate revoke tellsActsFor tagIfRoom newTag newSubtag grant ungrant newObject put get lock outOfSecrecy intoIntegrity returned fork call needOf fixedLength lengthByte authorityRequest threadRequest objectRequest outsideRequest wellFormed requestBy actsForSome everyLink noCycle linksFrom findFrom gapClosed joins leads without remembered allBelow anyBelow countBelow within withTag withoutTag union namesOnlyMade size setOf prelude outcomeBy rankOf whatOf firstOf
 all-cases = refl

@@ -11,6 +11,7 @@ use Rattle.numbers.specs.declared.labels.Label.{Label}
 use Rattle.numbers.specs.Labels.{namesOnlyMade}
 use Rattle.numbers.proofs.Bools.{and-left, and-right, implies}
 use Rattle.numbers.proofs.LabelLaws.{made-with}
+use Rattle.tables.specs.Rows.{isLive}
 use Rattle.tables.specs.declared.rows.ThreadRow.{ThreadRow}
 use Rattle.tables.specs.Things.{threadAt}
 use Rattle.tables.proofs.Among.{live-among}
@@ -27,7 +28,7 @@ use Rattle.kept.proofs.ThreadsKept.{RowHolds, row-holds, thread-set, ended-hold
 use Rattle.kept.proofs.LabelsKept.{without-made, labels-are}
 use Rattle.assurance.proofs.Worlds.{WorldHolds, SizedWorld}
 
-module _ (w : World) (holds : WorldHolds w) (sized : SizedWorld w) (f : List ℕ) (live : threadAt (w .tables .threads) (threadOf f .0) .live ≡ true) where
+module _ (w : World) (holds : WorldHolds w) (sized : SizedWorld w) (f : List ℕ) (live : isLive (threadAt (w .tables .threads) (threadOf f .0) .live) ≡ true) where
   -- the caller's row
   abbrev own : ThreadRow
   own = threadAt (w .tables .threads) (threadOf f .0)
@@ -42,12 +43,12 @@ module _ (w : World) (holds : WorldHolds w) (sized : SizedWorld w) (f : List ℕ
   pub caller-made : own .principal .0 < w .tables .principals
   caller-made =
       ltb-true (own .principal .0) (w .tables .principals)
-      (and-left _ (labelsMade (w .tables .tags) (own .labels) && asideMade (w .tables .principals) (own .aside) (own .calls)) (implies (own .live) _ (own-holds .made) live))
+      (and-left _ (labelsMade (w .tables .tags) (own .labels) && asideMade (w .tables .principals) (own .aside) (own .calls)) (implies (isLive (own .live)) _ (own-holds .made) live))
 
   labels-made : labelsMade (w .tables .tags) (own .labels) ≡ true
   labels-made =
       and-left (labelsMade (w .tables .tags) (own .labels)) (asideMade (w .tables .principals) (own .aside) (own .calls))
-      (and-right (ltb (own .principal .0) (w .tables .principals)) _ (implies (own .live) _ (own-holds .made) live))
+      (and-right (ltb (own .principal .0) (w .tables .principals)) _ (implies (isLive (own .live)) _ (own-holds .made) live))
 
   both : (namesOnlyMade (own .labels .secrecy) (w .tables .tags) ≡ true) × (namesOnlyMade (own .labels .integrity) (w .tables .tags) ≡ true)
   both = labels-are (w .tables .tags) (own .labels) .0 labels-made

@@ -10,6 +10,7 @@ use lib.ListN.{length-set}
 use Rattle.numbers.specs.Numbers.{public}
 use Rattle.numbers.specs.declared.Principal.{Principal}
 use Rattle.memory_rules.specs.MemoryRules.{pairMade}
+use Rattle.tables.specs.Rows.{isLive}
 use Rattle.tables.specs.Things.{threadAt}
 use Rattle.frames.specs.Requests.{threadOf, requestOf}
 use Rattle.frames.specs.declared.requests.Request.{Request}
@@ -79,7 +80,7 @@ module _ (w : World) (holds : WorldHolds w) (sized : SizedWorld w) (f : List ℕ
 
   module _ (other : allowed ≡ true → asker .0 ≡ public → ⊥) where
     decided :
-        (r : Request) → Spans f r → threadAt (w .tables .threads) (threadOf f .0) .live ≡ true → named (sightOf (w .tables) (threadOf f) r) r ≡ true →
+        (r : Request) → Spans f r → isLive (threadAt (w .tables .threads) (threadOf f .0) .live) ≡ true → named (sightOf (w .tables) (threadOf f) r) r ≡ true →
         WorldHolds (applied w f (decide (sightOf (w .tables) (threadOf f) r) (w .links) (w .grants) r allowed))
     decided (OfAuthority r) fits live there =
         authority-keeps w holds sized f (caller-made w holds sized f live) other (authority.authority-comes (sightOf (w .tables) (threadOf f) (OfAuthority r)) (w .links) (w .grants) allowed r there)

@@ -7,6 +7,7 @@ use Prim.Native.Nat.{ℕ}
 use lib.Dec.{eqb}
 use lib.ListN.{replicate}
 use Rattle.numbers.specs.Numbers.{office}
+use Rattle.tables.specs.Rows.{tagRow}
 use Rattle.tables.specs.declared.Tables.{Tables}
 use Rattle.tables.specs.declared.rows.Rank.the-variants.{Supertag}
 use Rattle.tables.specs.Things.{nobody, noLabels, noThread, freshTables}
@@ -89,7 +90,7 @@ publicThread =
       links = 0;
       tags = 0;
       grants = 0;
-      threads = record { live = true; principal = nobody; labels = noLabels; calls = 0; aside = replicate 8 nobody } ∷ replicate 15 noThread;
+      threads = record { live = 1; principal = nobody; labels = noLabels; calls = 0; aside = replicate 8 nobody } ∷ replicate 15 noThread;
       kinds = freshTables .kinds;
       objects = freshTables .objects;
     })
@@ -103,7 +104,7 @@ allTags =
       tags = 64;
       grants = 0;
       threads = freshTables .threads;
-      kinds = replicate 64 (record { root = record { 0 = office }; rank = Supertag });
+      kinds = replicate 64 (tagRow (record { 0 = office }) Supertag);
       objects = freshTables .objects;
     })
 

@@ -21,12 +21,13 @@ use Rattle.rules.proofs.RuleLaws.{rules-but-truth}
 use Rattle.state.specs.declared.State.{State}
 use Rattle.step.specs.declared.Stepped.{Stepped}
 use Rattle.step.specs.Step.{After}
-use Rattle.monitor.specs.Monitor.{shortestBuffer, requested, replyOf}
-use Rattle.monitor.proofs.Entering.{when-short, when-broken, told-short, told-broken, told-replied, told-links, told-grants}
+use Rattle.monitor.specs.Monitor.{shortestBuffer, quiet, requested, replyOf}
+use Rattle.monitor.proofs.Entering.{when-short, when-broken, told-status, told-written, told-links, told-grants}
 use Rattle.records.specs.declared.principals.PrincipalLink.{PrincipalLink}
 use Rattle.records.specs.declared.tags.TagLink.{TagLink}
 use Rattle.records.specs.Records.{principalNumber, principalLink, tagNumber, tagLink, gathered, changed}
-use Rattle.entry.specs.Entry.{overRecords, wholePlaces, overNumbers}
+use Rattle.entry.specs.declared.Reply.{Reply}
+use Rattle.entry.specs.Entry.{overRecords, wholePlaces, replyIn}
 
 -- ---- a change of the numbers is the same change of the records
 
@@ -114,13 +115,24 @@ module _ (s : State) (b f a : List ℕ) where
   -- all that the lists do not show
   record Same (l g k h : List ℕ) : Type 0 where
     pub told : replyOf s l g b f a ≡ replyOf s k h b f a
+    pub state : requested s l g b f a .replied .state ≡ requested s k h b f a .replied .state
     pub store : requested s l g b f a .store ≡ requested s k h b f a .store
     pub answer : requested s l g b f a .answer ≡ requested s k h b f a .answer
+
+  -- what is told, by the tests
+  told-short : (l g : List ℕ) → ltb (length a) shortestBuffer ≡ true → quiet 10 ≡ replyOf s l g b f a
+  unfolding replyOf
+  told-short l g e = hit _ e refl
+
+  told-broken : (l g : List ℕ) → ltb (length a) shortestBuffer ≡ false → not (breakNoRule (s .tables) (s .memory) l g b) ≡ true → quiet 9 ≡ replyOf s l g b f a
+  unfolding replyOf
+  told-broken l g e q = skip _ e (hit _ q refl)
 
   equal : {l g k h : List ℕ} → l ≡ k → g ≡ h → Same l g k h
   equal p q =
       record {
         told = ap₂ (λ (x y : List ℕ). replyOf s x y b f a) p q;
+        state = ap₂ (λ (x y : List ℕ). requested s x y b f a .replied .state) p q;
         store = ap₂ (λ (x y : List ℕ). requested s x y b f a .store) p q;
         answer = ap₂ (λ (x y : List ℕ). requested s x y b f a .answer) p q;
       }
@@ -140,7 +152,8 @@ module _ (s : State) (b f a : List ℕ) where
       ⊎-elim
       (λ e.
       record {
-        told = sym (told-short s l g b f a e) ∙ told-short s k h b f a e;
+        told = sym (told-short l g e) ∙ told-short k h e;
+        state = ap (λ (x : After). x .replied .state) (sym (when-short s l g b f a e)) ∙ ap (λ (x : After). x .replied .state) (when-short s k h b f a e);
         store = ap (λ (x : After). x .store) (sym (when-short s l g b f a e)) ∙ ap (λ (x : After). x .store) (when-short s k h b f a e);
         answer = ap (λ (x : After). x .answer) (sym (when-short s l g b f a e)) ∙ ap (λ (x : After). x .answer) (when-short s k h b f a e);
       })
@@ -148,7 +161,8 @@ module _ (s : State) (b f a : List ℕ) where
       let x = odd-break l g odd in
       let y = odd-break k h even in
       record {
-        told = sym (told-broken s l g b f a e x) ∙ told-broken s k h b f a e y;
+        told = sym (told-broken l g e x) ∙ told-broken k h e y;
+        state = ap (λ (x : After). x .replied .state) (sym (when-broken s l g b f a e x)) ∙ ap (λ (x : After). x .replied .state) (when-broken s k h b f a e y);
         store = ap (λ (x : After). x .store) (sym (when-broken s l g b f a e x)) ∙ ap (λ (x : After). x .store) (when-broken s k h b f a e y);
         answer = ap (λ (x : After). x .answer) (sym (when-broken s l g b f a e x)) ∙ ap (λ (x : After). x .answer) (when-broken s k h b f a e y);
       })
@@ -172,6 +186,10 @@ module _ (s : State) (b f a : List ℕ) where
           (λ p q. not-both (handed-long principalNumber ys p) (handed-long tagNumber zs q))
           (λ p q. not-both (sym (length-map ys principalNumber) ∙ p) (sym (length-map zs tagNumber) ∙ q))
 
+-- a reply of these numbers
+abbrev pub given : ℕ → ℕ → Reply
+given n k = record { status = n; written = k }
+
 module _ (s : State) (ys : List PrincipalLink) (zs : List TagLink) (b f a : List ℕ) where
   -- the numbers that are handed on
   abbrev pub handedLinks : List ℕ
@@ -186,18 +204,23 @@ module _ (s : State) (ys : List PrincipalLink) (zs : List TagLink) (b f a : List
   abbrev tagNumbers : List ℕ
   tagNumbers = map tagNumber zs
 
-  pub replied-is : overNumbers s handedLinks handedGrants b f a .replied ≡ overRecords s ys zs b f a .replied
-  replied-is = ap (λ (x : Stepped). x .replied) (handed-same s b f a ys zs .told) ∙ told-replied s numbers tagNumbers b f a
+  pub reply-is : given (replyOf s handedLinks handedGrants b f a .status) (replyOf s handedLinks handedGrants b f a .written) ≡ replyIn (overRecords s ys zs b f a .replied)
+  reply-is =
+      ap (λ (x : Stepped). given (x .status) (x .written)) (handed-same s b f a ys zs .told)
+      ∙ ap₂ given (told-status s numbers tagNumbers b f a) (told-written s numbers tagNumbers b f a)
+
+  pub state-is : requested s handedLinks handedGrants b f a .replied .state ≡ overRecords s ys zs b f a .replied .state
+  state-is = handed-same s b f a ys zs .state
 
   pub links-are : map principalLink (map principalNumber ys) ≡ ys
-      → changed principalLink (overNumbers s handedLinks handedGrants b f a .links) (s .tables .links) ys ≡ map principalLink (overRecords s ys zs b f a .links)
+      → changed principalLink (replyOf s handedLinks handedGrants b f a .links) (s .tables .links) ys ≡ map principalLink (overRecords s ys zs b f a .links)
   links-are same =
       ap₂ (λ (x : Stepped) (xs : List PrincipalLink). changed principalLink (x .links) (s .tables .links) xs) (handed-same s b f a ys zs .told) (sym same)
       ∙ map-changed principalLink (replyOf s numbers tagNumbers b f a .links) (s .tables .links) numbers
       ∙ ap (map principalLink) (told-links s numbers tagNumbers b f a)
 
   pub grants-are : map tagLink (map tagNumber zs) ≡ zs
-      → changed tagLink (overNumbers s handedLinks handedGrants b f a .grants) (s .tables .grants) zs ≡ map tagLink (overRecords s ys zs b f a .grants)
+      → changed tagLink (replyOf s handedLinks handedGrants b f a .grants) (s .tables .grants) zs ≡ map tagLink (overRecords s ys zs b f a .grants)
   grants-are same =
       ap₂ (λ (x : Stepped) (xs : List TagLink). changed tagLink (x .grants) (s .tables .grants) xs) (handed-same s b f a ys zs .told) (sym same)
       ∙ map-changed tagLink (replyOf s numbers tagNumbers b f a .grants) (s .tables .grants) tagNumbers

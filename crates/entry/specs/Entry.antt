@@ -10,15 +10,19 @@ use Rattle.records.specs.declared.principals.PrincipalLink.{PrincipalLink}
 use Rattle.records.specs.declared.tags.TagLink.{TagLink}
 use Rattle.records.specs.Records.{principalNumber, principalLink, tagNumber, tagLink}
 use Rattle.state.specs.declared.State.{State}
-use Rattle.step.specs.Step.{After}
-use Rattle.monitor.specs.Monitor.{requested, replyOf}
-use Rattle.entry.specs.declared.Told.{Told}
+use Rattle.step.specs.Step.{Replied, After}
+use Rattle.monitor.specs.Monitor.{requested}
+use Rattle.entry.specs.declared.Reply.{Reply}
 use Rattle.entry.specs.declared.Lists.{Lists}
 use Rattle.entry.specs.declared.Answered.{Answered}
 
 -- the state s, the records ys of principal links and zs of tag links, the store b, the frame f, the answer buffer a
 abbrev pub overRecords : State → List PrincipalLink → List TagLink → List ℕ → List ℕ → List ℕ → After
 overRecords s ys zs b f a = requested s (map principalNumber ys) (map tagNumber zs) b f a
+
+-- what it gives beside the state, the lists and the lent buffers
+abbrev pub replyIn : Replied → Reply
+replyIn r = record { status = r .status; written = r .written }
 
 -- no links: "Unused places are zero"
 abbrev pub noLinks : Lists
@@ -28,11 +32,12 @@ noLinks = record { links = replicate linkPlaces (principalLink 0); grants = repl
 abbrev pub listsOf : After → Lists
 listsOf r = record { links = map principalLink (r .links); grants = map tagLink (r .grants) }
 
--- what it leaves where the lists x are the caller's own
+-- what it leaves where the state s and the lists x are the caller's own
 abbrev pub answeredOf : State → Lists → List ℕ → List ℕ → List ℕ → Answered
 answeredOf s x b f a =
     record {
-      replied = overRecords s (x .links) (x .grants) b f a .replied;
+      reply = replyIn (overRecords s (x .links) (x .grants) b f a .replied);
+      state = overRecords s (x .links) (x .grants) b f a .replied .state;
       lists = listsOf (overRecords s (x .links) (x .grants) b f a);
     }
 
@@ -41,14 +46,3 @@ answeredOf s x b f a =
 -- none of a list that is not whole is handed on
 abbrev pub wholePlaces : ℕ → ℕ
 wholePlaces n = cond (eqb n linkPlaces) linkPlaces 0
-
--- what is told of the request on the numbers l and g
-abbrev pub overNumbers : State → List ℕ → List ℕ → List ℕ → List ℕ → List ℕ → Told
-overNumbers s l g b f a =
-    record {
-      replied = replyOf s l g b f a .replied;
-      «used_links» = s .tables .links;
-      links = replyOf s l g b f a .links;
-      «used_grants» = s .tables .grants;
-      grants = replyOf s l g b f a .grants;
-    }

@@ -6,30 +6,25 @@
 // change that a request makes in a list is put back into its records.
 ghost use mathlib.Core.Path.{_≡_};
 ghost use mathlib.Core.List.{map};
-ghost use lib.ListN.{take};
 ghost use Rattle.records.specs.Records.{principalLink, tagLink};
-ghost use Rattle.monitor.specs.Monitor.{requested};
-ghost use Rattle.entry.specs.Entry.{wholePlaces, overNumbers, overRecords, answeredOf, noLinks};
+ghost use Rattle.entry.specs.Entry.{wholePlaces, replyIn, overRecords, answeredOf, noLinks};
+use lent::counts_of;
 use monitor::reply;
-use outcomes::ListChange;
 use records::PrincipalLink;
 use records::TagLink;
 use records::principals;
 use records::tags;
 use state::State;
-use step::Replied;
 
 // "256 places each"
 const PLACES: usize = 256;
 
-// What a request leaves beside the lent buffers, and for each list how many places were in use and what is to
-// change.
-struct Told {
-    replied: Replied,
-    used_links: usize,
-    links: ListChange,
-    used_grants: usize,
-    grants: ListChange,
+// What a request leaves beside the state, the lists and the lent buffers: its number or 0, and how many bytes of the
+// answer buffer were written.
+#[repr(C)]
+pub struct Reply {
+    pub status: u8,
+    pub written: usize,
 }
 
 // "a lent list of other than 256 places" is refused whatever stands in it, so none of it is handed on.
@@ -39,66 +34,33 @@ fn whole_places(places: usize) -> usize
     if places == PLACES { PLACES } else { 0 }
 }
 
-// The request over the numbers of the links, from lists of so many places.
-fn over_numbers(
-    s: State,
-    places: usize,
-    links: [u32; 256],
-    tag_places: usize,
-    grants: [u32; 256],
-    store: &mut [u8],
-    frame: &[u8],
-    answer: &mut [u8],
-) -> Told
-    ensures { λ r. ⌜ r ≡ overNumbers s (take (wholePlaces places) links) (take (wholePlaces «tag_places») grants) (now (store .entry)) (now (frame .entry)) (now (answer .entry)) ⌝ }
-    ensures { λ _. ⌜ now (store .exit) ≡ requested s (take (wholePlaces places) links) (take (wholePlaces «tag_places») grants) (now (store .entry)) (now (frame .entry)) (now (answer .entry)) .store ⌝ }
-    ensures { λ _. ⌜ now (answer .exit) ≡ requested s (take (wholePlaces places) links) (take (wholePlaces «tag_places») grants) (now (store .entry)) (now (frame .entry)) (now (answer .entry)) .answer ⌝ }
-{
-    let n = whole_places(places);
-    let k = whole_places(tag_places);
-    let r = reply(s, &links[..n], &grants[..k], store, frame, answer);
-    let t = s.tables;
-    let replied = r.replied;
-    let of_links = r.links;
-    let of_grants = r.grants;
-    Told {
-        replied,
-        used_links: t.links,
-        links: of_links,
-        used_grants: t.grants,
-        grants: of_grants,
-    }
-}
-
 pub fn request(
-    s: State,
+    s: &mut State,
     links: &mut [PrincipalLink],
     grants: &mut [TagLink],
     store: &mut [u8],
     frame: &[u8],
     answer: &mut [u8],
-) -> Replied
-    ensures { λ r. ⌜ r ≡ overRecords s (now (links .entry)) (now (grants .entry)) (now (store .entry)) (now (frame .entry)) (now (answer .entry)) .replied ⌝ }
-    ensures { λ _. ⌜ now (links .exit) ≡ map principalLink (overRecords s (now (links .entry)) (now (grants .entry)) (now (store .entry)) (now (frame .entry)) (now (answer .entry)) .links) ⌝ }
-    ensures { λ _. ⌜ now (grants .exit) ≡ map tagLink (overRecords s (now (links .entry)) (now (grants .entry)) (now (store .entry)) (now (frame .entry)) (now (answer .entry)) .grants) ⌝ }
-    ensures { λ _. ⌜ now (store .exit) ≡ overRecords s (now (links .entry)) (now (grants .entry)) (now (store .entry)) (now (frame .entry)) (now (answer .entry)) .store ⌝ }
-    ensures { λ _. ⌜ now (answer .exit) ≡ overRecords s (now (links .entry)) (now (grants .entry)) (now (store .entry)) (now (frame .entry)) (now (answer .entry)) .answer ⌝ }
+) -> Reply
+    ensures { λ r. ⌜ r ≡ replyIn (overRecords (now (s .entry)) (now (links .entry)) (now (grants .entry)) (now (store .entry)) (now (frame .entry)) (now (answer .entry)) .replied) ⌝ }
+    ensures { λ _. ⌜ now (s .exit) ≡ overRecords (now (s .entry)) (now (links .entry)) (now (grants .entry)) (now (store .entry)) (now (frame .entry)) (now (answer .entry)) .replied .state ⌝ }
+    ensures { λ _. ⌜ now (links .exit) ≡ map principalLink (overRecords (now (s .entry)) (now (links .entry)) (now (grants .entry)) (now (store .entry)) (now (frame .entry)) (now (answer .entry)) .links) ⌝ }
+    ensures { λ _. ⌜ now (grants .exit) ≡ map tagLink (overRecords (now (s .entry)) (now (links .entry)) (now (grants .entry)) (now (store .entry)) (now (frame .entry)) (now (answer .entry)) .grants) ⌝ }
+    ensures { λ _. ⌜ now (store .exit) ≡ overRecords (now (s .entry)) (now (links .entry)) (now (grants .entry)) (now (store .entry)) (now (frame .entry)) (now (answer .entry)) .store ⌝ }
+    ensures { λ _. ⌜ now (answer .exit) ≡ overRecords (now (s .entry)) (now (links .entry)) (now (grants .entry)) (now (store .entry)) (now (frame .entry)) (now (answer .entry)) .answer ⌝ }
 {
     let numbers = principals::numbers_of(links);
     let tag_numbers = tags::numbers_of(grants);
-    let told = over_numbers(
-        s,
-        links.len(),
-        numbers,
-        grants.len(),
-        tag_numbers,
-        store,
-        frame,
-        answer,
-    );
-    principals::put_back(links, told.used_links, told.links);
-    tags::put_back(grants, told.used_grants, told.grants);
-    told.replied
+    let n = whole_places(links.len());
+    let k = whole_places(grants.len());
+    let used = counts_of(s);
+    let told = reply(s, &numbers[..n], &tag_numbers[..k], store, frame, answer);
+    principals::put_back(links, used.links, told.links);
+    tags::put_back(grants, used.grants, told.grants);
+    Reply {
+        status: told.status,
+        written: told.written,
+    }
 }
 
 // The two lists of a caller that holds them itself.
@@ -118,12 +80,13 @@ pub fn no_links() -> Lists
 
 // What a request leaves of its state and lists.
 pub struct Answered {
-    pub replied: Replied,
+    pub reply: Reply,
+    pub state: State,
     pub lists: Lists,
 }
 
-// The request of a caller that holds its lists by value: they are lent for it. A function that calls this one is
-// covered again.
+// The request of a caller that holds its state and lists by value: they are lent for it. A function that calls this
+// one is covered again.
 pub fn request_with(
     s: State,
     lists: Lists,
@@ -135,12 +98,14 @@ pub fn request_with(
     ensures { λ _. ⌜ now (store .exit) ≡ overRecords s (lists .links) (lists .grants) (now (store .entry)) (now (frame .entry)) (now (answer .entry)) .store ⌝ }
     ensures { λ _. ⌜ now (answer .exit) ≡ overRecords s (lists .links) (lists .grants) (now (store .entry)) (now (frame .entry)) (now (answer .entry)) .answer ⌝ }
 {
+    let mut state = s;
     let mut links = lists.links;
     let mut grants = lists.grants;
-    let replied = request(s, &mut links, &mut grants, store, frame, answer);
+    let reply = request(&mut state, &mut links, &mut grants, store, frame, answer);
     let lent = Lists { links, grants };
     Answered {
-        replied,
+        reply,
+        state,
         lists: lent,
     }
 }

@@ -1,1 +1,5 @@
+pub mod Relending
 pub mod Entering
+pub mod Replying
+pub mod Testing
+pub mod Turning

@@ -2,7 +2,7 @@
 use mathlib.Core.Bool.{not, cond}
 use mathlib.Core.List.{List}
 use Prim.Native.Nat.{ℕ}
-use lib.Dec.{ltb}
+use lib.Dec.{eqb, ltb}
 use lib.ListN.{length}
 use Rattle.answers.specs.declared.Answer.the-variants.{Refused}
 use Rattle.answers.specs.declared.Refusal.the-variants.{BrokenRule}
@@ -10,7 +10,6 @@ use Rattle.answers.specs.Answers.{answerBytes}
 use Rattle.rules.specs.Tested.{breakNoRule}
 use Rattle.state.specs.declared.State.{State}
 use Rattle.outcomes.specs.declared.ListChange.the-variants.{Keep}
-use Rattle.step.specs.declared.Replied.{Replied}
 use Rattle.step.specs.declared.Stepped.{Stepped}
 use Rattle.step.specs.Step.{After, answeredWith, before, stepped, stepOf}
 
@@ -18,9 +17,9 @@ use Rattle.step.specs.Step.{After, answeredWith, before, stepped, stepOf}
 abbrev pub shortestBuffer : ℕ
 shortestBuffer = 34
 
--- nothing changes in the lists
-abbrev pub quiet : Replied → Stepped
-quiet r = record { replied = r; links = Keep; grants = Keep }
+-- 10 or 9: the one byte of 9 is written, and nothing changes in the lists
+abbrev pub quiet : ℕ → Stepped
+quiet n = record { status = n; written = cond (eqb n 9) 1 0; links = Keep; grants = Keep }
 
 -- the state s, the lists l of principal links and g of tag links, the store b, the frame f, the answer buffer a
 module _ (s : State) (l g b f a : List ℕ) where
@@ -38,9 +37,16 @@ module _ (s : State) (l g b f a : List ℕ) where
       (cond (not (breakNoRule (s .tables) (s .memory) l g b)) broken
       (stepped s l g b f a))
 
-  -- what it leaves beside the lent buffers, and what changes in the lists
+  -- what it gives beside the lent buffers, and what changes in the lists
   unfoldable pub replyOf : Stepped
   replyOf =
-      cond (ltb (length a) shortestBuffer) (quiet (noRoom .replied))
-      (cond (not (breakNoRule (s .tables) (s .memory) l g b)) (quiet (broken .replied))
+      cond (ltb (length a) shortestBuffer) (quiet 10)
+      (cond (not (breakNoRule (s .tables) (s .memory) l g b)) (quiet 9)
       (stepOf s l g b f a))
+
+  -- 10, then 9: the number, or 0 where the request goes on; and the answer buffer then
+  unfoldable pub stopOf : ℕ
+  stopOf = cond (ltb (length a) shortestBuffer) 10 (cond (not (breakNoRule (s .tables) (s .memory) l g b)) 9 0)
+
+  unfoldable pub stopAnswer : List ℕ
+  stopAnswer = cond (ltb (length a) shortestBuffer) a (cond (not (breakNoRule (s .tables) (s .memory) l g b)) (broken .answer) a)

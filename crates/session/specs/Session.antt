@@ -12,10 +12,11 @@ use Rattle.memory.specs.declared.Memory.{Memory}
 use Rattle.lines.specs.Lines.{lineFeed, frameOf, isFrame, lineOf}
 use Rattle.state.specs.declared.State.{State}
 use Rattle.step.specs.World.{worldOf}
-use Rattle.step.specs.Step.{After, answeredWith}
+use Rattle.step.specs.Step.{Replied, After, answeredWith}
 use Rattle.monitor.specs.Monitor.{shortestBuffer}
 use Rattle.records.specs.Records.{principalNumber, tagNumber}
 use Rattle.entry.specs.declared.Lists.{Lists}
+use Rattle.entry.specs.declared.Answered.{Answered}
 use Rattle.entry.specs.Entry.{overRecords, listsOf}
 use Rattle.session.specs.declared.Line.{Line}
 use Rattle.session.specs.declared.Turned.{Turned}
@@ -34,6 +35,10 @@ restarted z = record { held = 0; bytes = z .bytes }
 
 abbrev pub noLine : Line
 noLine = record { held = 0; bytes = replicate 73 0 }
+
+-- what a request leaves, of what it gives its caller
+abbrev pub repliedIn : Answered → Replied
+repliedIn x = record { status = x .reply .status; written = x .reply .written; state = x .state }
 
 -- ---- a whole line z with the answer buffer a, from the state s, the lists x and the store b
 

@@ -7,10 +7,11 @@ ghost use lib.Dec.{leb};
 ghost use lib.ListN.{length};
 ghost use Rattle.store.specs.Store.{over};
 ghost use Rattle.monitor.specs.Monitor.{shortestBuffer};
-ghost use Rattle.session.specs.Session.{lineAnswered, answeredLists, sessionOf, turned, printed, endOf, lastLine};
+ghost use Rattle.session.specs.Session.{repliedIn, lineAnswered, answeredLists, sessionOf, turned, printed, endOf, lastLine};
 ghost use Rattle.session.specs.Run.{answerRoom, endingRoom, fed, fedSession, fedBytes, endSession, endBytes, finished, ran, ranSession, ranBytes};
 use entry::Answered;
 use entry::Lists;
+use entry::Reply;
 use entry::no_links;
 use entry::request_with;
 use lines::LINE_FEED;
@@ -19,7 +20,6 @@ use lines::put_line;
 use memory::Memory;
 use state::State;
 use state::start;
-use step::Replied;
 
 // Of a line no more is kept than tells that it is too long.
 const KEPT: usize = 73;
@@ -76,7 +76,7 @@ struct Turned {
 // A whole line: its frame is a request; or "refused 1: 01 is printed for it and nothing changes".
 fn answer_line(s: State, lists: Lists, store: &mut [u8], line: &[u8], answer: &mut [u8]) -> Answered
     requires { ⌜ shortestBuffer ≤ length (now answer) ⌝ }
-    ensures { λ r. ⌜ r .replied ≡ lineAnswered s lists (now (store .entry)) (now (line .entry)) (now (answer .entry)) .replied ⌝ }
+    ensures { λ r. ⌜ repliedIn r ≡ lineAnswered s lists (now (store .entry)) (now (line .entry)) (now (answer .entry)) .replied ⌝ }
     ensures { λ r. ⌜ r .lists ≡ answeredLists s lists (now (store .entry)) (now (line .entry)) (now (answer .entry)) ⌝ }
     ensures { λ _. ⌜ now (store .exit) ≡ lineAnswered s lists (now (store .entry)) (now (line .entry)) (now (answer .entry)) .store ⌝ }
     ensures { λ _. ⌜ now (answer .exit) ≡ lineAnswered s lists (now (store .entry)) (now (line .entry)) (now (answer .entry)) .answer ⌝ }
@@ -84,12 +84,15 @@ fn answer_line(s: State, lists: Lists, store: &mut [u8], line: &[u8], answer: &m
     let mut frame = [0u8; 36];
     if !frame_of(line, &mut frame) {
         answer[0] = 1;
-        let replied = Replied {
+        let reply = Reply {
             status: 1,
             written: 1,
-            state: s,
         };
-        return Answered { replied, lists };
+        return Answered {
+            reply,
+            state: s,
+            lists,
+        };
     }
     let n = line.len() / 2;
     request_with(s, lists, store, &frame[..n], answer)
@@ -108,10 +111,10 @@ fn end_line(s: State, l: Lists, store: &mut [u8], line: Line, out: &mut [u8], at
     let n = if held < KEPT { held } else { KEPT };
     let mut answer = [0u8; 34];
     let r = answer_line(s, l, store, &bytes[..n], &mut answer);
-    let replied = r.replied;
-    let k = replied.written;
+    let reply = r.reply;
+    let k = reply.written;
     put_line(&answer[..k], out, at);
-    let state = replied.state;
+    let state = r.state;
     let lists = r.lists;
     Turned {
         state,

@@ -6,9 +6,13 @@ use Prim.Native.Nat.{ℕ}
 use Rattle.numbers.specs.declared.Tag.{Tag}
 use Rattle.numbers.specs.declared.Object.{Object}
 use Rattle.numbers.specs.declared.Thread.{Thread}
+use Rattle.tables.specs.Rows.{isLive}
 use Rattle.tables.specs.declared.Tables.{Tables}
 use Rattle.tables.specs.declared.rows.ThreadRow.{ThreadRow}
-use Rattle.tables.specs.Things.{threadAt, objectAt, lineageOf}
+use Rattle.tables.specs.declared.rows.TagRow.{TagRow}
+use Rattle.tables.specs.declared.rows.ObjectRow.{ObjectRow}
+use Rattle.lent.specs.declared.Counts.{Counts}
+use Rattle.tables.specs.Things.{threadAt, objectAt, lineageOf, lineageIn}
 use Rattle.tables.specs.Free.{freeThread, freeObject}
 use Rattle.frames.specs.declared.requests.AuthorityRequest.{AuthorityRequest}
 use Rattle.frames.specs.declared.requests.AuthorityRequest.the-variants.{NewPrincipal, Delegate, Revoke, ActsFor, NewTag, NewSubtag, Grant, Ungrant, Authoritative}
@@ -94,16 +98,25 @@ isNew (Get o) = false
 isNew (Lock o) = false
 isNew (Unlock o) = false
 
+abbrev pub forks : Request → Bool
+forks (OfAuthority r) = false
+forks (OfThread r) = isFork r
+forks (OfObject r) = false
+forks (OfOutside r) = false
+
+abbrev pub makesObject : Request → Bool
+makesObject (OfAuthority r) = false
+makesObject (OfThread r) = false
+makesObject (OfObject r) = isNew r
+makesObject (OfOutside r) = false
+
 abbrev pub freeFor : Tables → Request → ℕ
-freeFor t (OfAuthority r) = 0
-freeFor t (OfThread r) = cond (isFork r) (freeThread (t .threads)) 0
-freeFor t (OfObject r) = cond (isNew r) (freeObject (t .objects)) 0
-freeFor t (OfOutside r) = 0
+freeFor t r = cond (forks r) (freeThread (t .threads)) (cond (makesObject r) (freeObject (t .objects)) 0)
 
 -- ---- who asks
 
 abbrev pub callerIn : ThreadRow → Caller
-callerIn r = record { live = r .live; principal = r .principal; labels = r .labels; calls = r .calls }
+callerIn r = record { live = isLive (r .live); principal = r .principal; labels = r .labels; calls = r .calls }
 
 abbrev pub callerOf : List ThreadRow → Thread → Caller
 callerOf threads n = callerIn (threadAt threads (n .0))
@@ -121,4 +134,19 @@ sightOf t n r =
       lineage = lineageOf (t .kinds) (tagNamed r);
       object = objectAt (t .objects) (objectNamed r .0);
       free = freeFor t r;
+    }
+
+-- ---- the same from what was read of the tables: the rows of its thread, its tag, that tag's supertag and its object, and the counts
+
+abbrev pub seenIn : Request → ThreadRow → TagRow → TagRow → ObjectRow → Counts → ℕ → Sight
+seenIn r row tag above object counts free =
+    record {
+      caller = callerIn row;
+      principals = counts .principals;
+      tags = counts .tags;
+      links = counts .links;
+      grants = counts .grants;
+      lineage = lineageIn (tagNamed r) tag above;
+      object = object;
+      free = free;
     }

@@ -6,27 +6,33 @@ mod names;
 
 pub use names::tag_named;
 ghost use mathlib.Core.Path.{_≡_};
-ghost use Rattle.tables.specs.Things.{objectAt};
-ghost use Rattle.sight.specs.Sight.{callerIn, callerOf, freeFor, sightOf};
-use crate::names::is_fork;
-use crate::names::is_new;
-use crate::names::object_named;
+ghost use Rattle.sight.specs.Sight.{tagNamed, objectNamed, callerIn, forks, makesObject, freeFor, sightOf, seenIn};
+use crate::names::forks;
+use crate::names::makes_object;
+use crate::names::object_number;
+use crate::names::tag_number;
+use crate::names::thread_number;
 use frames::requests::Request;
+use lent::Counts;
+use lent::counts_of;
+use lent::object_at;
+use lent::objects;
+use lent::tag_at;
+use lent::thread_at;
+use lent::threads;
 use links::Lineage;
 use numbers::LabelPair;
-use numbers::OBJECTS;
-use numbers::Object;
 use numbers::Principal;
-use numbers::THREADS;
 use numbers::Thread;
-use tables::Tables;
+use state::State;
 use tables::free::free_object;
 use tables::free::free_thread;
-use tables::lineage::lineage;
+use tables::lineage::lineage_in;
+use tables::lineage::supertag_of;
 use tables::rows::ObjectRow;
+use tables::rows::TagRow;
 use tables::rows::ThreadRow;
-use tables::rows::no_object;
-use tables::rows::no_thread;
+use tables::says::is_live;
 
 // The thread that asks, and who it runs as.
 pub struct Caller {
@@ -53,67 +59,62 @@ fn caller_in(row: ThreadRow) -> Caller
     let principal = row.principal;
     let labels = row.labels;
     Caller {
-        live: row.live,
+        live: is_live(row.live),
         principal,
         labels,
         calls: row.calls,
     }
 }
 
-// A thread number past the last is not live.
-fn caller_of(threads: [ThreadRow; 16], n: Thread) -> Caller
-    ensures { λ r. ⌜ r ≡ callerOf threads n ⌝ }
+// The number that a new thread or object would take. Only for these is a whole table looked through.
+fn free_for(s: &State, r: Request) -> usize
+    ensures { λ n. ⌜ n ≡ freeFor (now (s .entry) .tables) r ⌝ }
 {
-    let i = n.0 as usize;
-    if THREADS <= i {
-        return caller_in(no_thread());
+    if forks(r) {
+        return free_thread(threads(s));
     }
-    caller_in(threads[i])
+    if makes_object(r) {
+        return free_object(objects(s));
+    }
+    0
 }
 
-// An object number past the last is free.
-fn object_row(objects: [ObjectRow; 64], o: Object) -> ObjectRow
-    ensures { λ r. ⌜ r ≡ objectAt objects (o .0) ⌝ }
+// What a request sees where these rows were read for it: its thread's, its tag's, the one of that tag's supertag,
+// and its object's.
+fn seen(
+    r: Request,
+    row: ThreadRow,
+    tag: TagRow,
+    above: TagRow,
+    object: ObjectRow,
+    counts: Counts,
+    free: usize,
+) -> Sight
+    ensures { λ s. ⌜ s ≡ seenIn r row tag above object counts free ⌝ }
 {
-    let i = o.0 as usize;
-    if OBJECTS <= i {
-        return no_object();
-    }
-    objects[i]
-}
-
-// The number that a new thread or object would take.
-fn free_for(t: Tables, r: Request) -> usize
-    ensures { λ n. ⌜ n ≡ freeFor t r ⌝ }
-{
-    let threads = t.threads;
-    let objects = t.objects;
-    match r {
-        Request::OfAuthority(_) => 0,
-        Request::OfThread(a) => { if is_fork(a) { free_thread(threads) } else { 0 } }
-        Request::OfObject(a) => { if is_new(a) { free_object(objects) } else { 0 } }
-        Request::OfOutside(_) => 0,
-    }
-}
-
-pub fn sight_of(t: Tables, n: Thread, r: Request) -> Sight
-    ensures { λ s. ⌜ s ≡ sightOf t n r ⌝ }
-{
-    let threads = t.threads;
-    let kinds = t.kinds;
-    let objects = t.objects;
-    let caller = caller_of(threads, n);
-    let lineage = lineage(kinds, tag_named(r));
-    let object = object_row(objects, object_named(r));
-    let free = free_for(t, r);
+    let caller = caller_in(row);
+    let lineage = lineage_in(tag_named(r), tag, above);
     Sight {
         caller,
-        principals: t.principals,
-        tags: t.tags,
-        links: t.links,
-        grants: t.grants,
+        principals: counts.principals,
+        tags: counts.tags,
+        links: counts.links,
+        grants: counts.grants,
         lineage,
         object,
         free,
     }
+}
+
+// It is read row by row, where the state lies.
+pub fn sight_of(s: &State, n: Thread, r: Request) -> Sight
+    ensures { λ x. ⌜ x ≡ sightOf (now (s .entry) .tables) n r ⌝ }
+{
+    let row = thread_at(s, thread_number(n));
+    let tag = tag_at(s, tag_number(r));
+    let above = tag_at(s, supertag_of(tag));
+    let object = object_at(s, object_number(r));
+    let counts = counts_of(s);
+    let free = free_for(s, r);
+    seen(r, row, tag, above, object, counts, free)
 }

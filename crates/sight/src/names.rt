@@ -1,12 +1,13 @@
 // Which tag and which object a request names, and whether it makes a thread or an object.
 ghost use mathlib.Core.Path.{_≡_};
-ghost use Rattle.sight.specs.Sight.{authorityTag, threadTag, tagNamed, objectOf, objectNamed, isFork, isNew};
+ghost use Rattle.sight.specs.Sight.{authorityTag, threadTag, tagNamed, objectOf, objectNamed, isFork, isNew, forks, makesObject};
 use frames::requests::AuthorityRequest;
 use frames::requests::ObjectRequest;
 use frames::requests::Request;
 use frames::requests::ThreadRequest;
 use numbers::Object;
 use numbers::Tag;
+use numbers::Thread;
 
 // A number that names nothing.
 const NOTHING: u8 = 255;
@@ -68,7 +69,7 @@ fn object_of(r: ObjectRequest) -> Object
     }
 }
 
-pub fn object_named(r: Request) -> Object
+fn object_named(r: Request) -> Object
     ensures { λ o. ⌜ o ≡ objectNamed r ⌝ }
 {
     match r {
@@ -79,7 +80,7 @@ pub fn object_named(r: Request) -> Object
     }
 }
 
-pub fn is_fork(r: ThreadRequest) -> bool
+fn is_fork(r: ThreadRequest) -> bool
     ensures { λ b. ⌜ b ≡ isFork r ⌝ }
 {
     match r {
@@ -94,7 +95,7 @@ pub fn is_fork(r: ThreadRequest) -> bool
     }
 }
 
-pub fn is_new(r: ObjectRequest) -> bool
+fn is_new(r: ObjectRequest) -> bool
     ensures { λ b. ⌜ b ≡ isNew r ⌝ }
 {
     match r {
@@ -106,5 +107,49 @@ pub fn is_new(r: ObjectRequest) -> bool
         ObjectRequest::Get(_) => false,
         ObjectRequest::Lock(_) => false,
         ObjectRequest::Unlock(_) => false,
+    }
+}
+
+// The numbers at which the tables are read: of the thread that asks ..
+pub fn thread_number(n: Thread) -> usize
+    ensures { λ r. ⌜ r ≡ n .0 ⌝ }
+{
+    n.0 as usize
+}
+
+// .. of the tag that a request names, and of its object; a request that names none has a number past the last.
+pub fn tag_number(r: Request) -> usize
+    ensures { λ n. ⌜ n ≡ tagNamed r .0 ⌝ }
+{
+    let t = tag_named(r);
+    t.0 as usize
+}
+
+pub fn object_number(r: Request) -> usize
+    ensures { λ n. ⌜ n ≡ objectNamed r .0 ⌝ }
+{
+    let o = object_named(r);
+    o.0 as usize
+}
+
+pub fn forks(r: Request) -> bool
+    ensures { λ x. ⌜ x ≡ forks r ⌝ }
+{
+    match r {
+        Request::OfAuthority(_) => false,
+        Request::OfThread(a) => is_fork(a),
+        Request::OfObject(_) => false,
+        Request::OfOutside(_) => false,
+    }
+}
+
+pub fn makes_object(r: Request) -> bool
+    ensures { λ x. ⌜ x ≡ makesObject r ⌝ }
+{
+    match r {
+        Request::OfAuthority(_) => false,
+        Request::OfThread(_) => false,
+        Request::OfObject(a) => is_new(a),
+        Request::OfOutside(_) => false,
     }
 }

@@ -16,7 +16,7 @@ use Rattle.prelude.specs.Prelude.{prelude}
 use Rattle.outcomes.specs.declared.Outcome.{Outcome}
 use Rattle.outcomes.specs.Outcomes.{refused}
 use Rattle.decide.specs.Decide.{decide}
-use Rattle.step.specs.Step.{unlessStopped, seen, outcome}
+use Rattle.step.specs.Step.{unlessStopped, seen, outcomeBy, outcome}
 
 module _ (t : Tables) (l g f : List ℕ) (allowed : Bool) where
   -- what holds of every refusal, and of what is decided once 1 to 4 are passed, holds of what the request comes to
@@ -29,7 +29,7 @@ module _ (t : Tables) (l g f : List ℕ) (allowed : Bool) where
       flows (seen t l g f) (kindOf f) (requestOf f) ≡ true →
       P (decide (seen t l g f) l g (requestOf f) allowed)) →
       P (outcome t l g f allowed)
-  unfolding outcome prelude
+  unfolding outcomeBy prelude
   outcome-ind P stop go =
       let s = seen t l g f in
       let Q : Checked → Type 0 = λ c. P (unlessStopped c (decide s l g (requestOf f) allowed)) in

@@ -9,16 +9,18 @@ use borrow.Author.Tests.{leb-true}
 use lib.Dec.{leb}
 use lib.ListN.{length}
 use Rattle.numbers.specs.Numbers.{mostThreads, mostPutAside, mostObjects, mostQueued}
-use Rattle.numbers.proofs.Bools.{by-test, implies}
+use Rattle.numbers.proofs.Bools.{and-right, by-test, implies}
 use Rattle.links.proofs.LinkLaws.{found-used}
 use Rattle.store.specs.Store.{placeSize, objectSize, placeAt}
 use Rattle.memory.specs.declared.Memory.{Memory}
+use Rattle.tables.specs.Rows.{isLive, isFree, whatOf}
 use Rattle.tables.specs.declared.Tables.{Tables}
+use Rattle.tables.specs.declared.rows.ThreadRow.{ThreadRow}
 use Rattle.tables.specs.declared.rows.What.{What}
 use Rattle.tables.specs.declared.rows.What.the-variants as what
 use Rattle.tables.specs.Things.{threadAt, objectAt}
-use Rattle.tables.specs.Free.{isFree}
 use Rattle.tables.proofs.Among.{live-among, used-among}
+use Rattle.lent.specs.Lent.{countsOf}
 use Rattle.rules.specs.Rules.{OnlyTruthBroken}
 use Rattle.frames.specs.declared.requests.AuthorityRequest.{AuthorityRequest}
 use Rattle.frames.specs.declared.requests.ThreadRequest.{ThreadRequest}
@@ -45,7 +47,7 @@ use Rattle.decide.specs.Decide.{decide}
 use Rattle.decide.proofs.AuthorityComes as authority
 use Rattle.decide.proofs.ThreadComes as thread
 use Rattle.decide.proofs.ObjectComes as object
-use Rattle.step.specs.World.{World, HasRoom}
+use Rattle.step.specs.World.{HasRoom}
 use Rattle.step.specs.Step.{outcome}
 use Rattle.step.proofs.Ind.{outcome-ind}
 
@@ -59,13 +61,16 @@ module _
     (objects : length (t .objects) ≡ mostObjects)
     (f : List ℕ)
   where
-    -- the world of these tables
-    abbrev w : World
-    w = record { tables = t; links = l; grants = g; store = s }
-
     -- the caller's number
     abbrev n : ℕ
     n = threadOf f .0
+
+    -- and row
+    abbrev own : ThreadRow
+    own = threadAt (t .threads) n
+
+    abbrev Roomy : Outcome → Type 0
+    Roomy o = HasRoom (countsOf t) own s f o
 
     -- what request r sees
     abbrev sight : Request → Sight
@@ -73,27 +78,27 @@ module _
 
     -- ---- there is room for a change where there is room in the table that it changes
 
-    links-room : (c : ListChange) → ListFits c (t .links) → HasRoom w f (linksChanged c)
+    links-room : (c : ListChange) → ListFits c (t .links) → Roomy (linksChanged c)
     links-room c fits = record { rows = tt; links = fits; grants = tt; store = tt; answer = tt }
 
-    grants-room : (c : ListChange) → ListFits c (t .grants) → HasRoom w f (grantsChanged c)
+    grants-room : (c : ListChange) → ListFits c (t .grants) → Roomy (grantsChanged c)
     grants-room c fits = record { rows = tt; links = tt; grants = fits; store = tt; answer = tt }
 
     -- of the store and the rows
-    both-room : (a : Answer) (c : StoreChange) (d : RowChange) → Ready f s a → StoreFits c f s → RowFits t n d → HasRoom w f (record { answer = a; links = list.Keep; grants = list.Keep; store = c; rows = d })
+    both-room : (a : Answer) (c : StoreChange) (d : RowChange) → Ready f s a → StoreFits c f s → RowFits (t .principals) (t .tags) n own d → Roomy (record { answer = a; links = list.Keep; grants = list.Keep; store = c; rows = d })
     both-room a c d ready kept fits = record { rows = fits; links = tt; grants = tt; store = kept; answer = ready }
 
     -- of the rows alone, or of nothing
-    rows-room : (a : Answer) (c : RowChange) → Ready f s a → RowFits t n c → HasRoom w f (rowsChanged a c)
+    rows-room : (a : Answer) (c : RowChange) → Ready f s a → RowFits (t .principals) (t .tags) n own c → Roomy (rowsChanged a c)
     rows-room a c ready fits = both-room a store.Keep c ready tt fits
 
     -- ---- kinds 01 to 09
 
-    told-room : (b : Bool) → HasRoom w f (cond b (told 1) (told 0))
-    told-room b = by-test (HasRoom w f) b (λ e. rows-room _ _ tt tt) (λ e. rows-room _ _ tt tt)
+    told-room : (b : Bool) → Roomy (cond b (told 1) (told 0))
+    told-room b = by-test (Roomy) b (λ e. rows-room _ _ tt tt) (λ e. rows-room _ _ tt tt)
 
     -- the tests have shown that there is room, and what is removed was found
-    authority-room : {allowed : Bool} {r : AuthorityRequest} {o : Outcome} → authority.AuthorityComes (sight (OfAuthority r)) l g allowed r o → HasRoom w f o
+    authority-room : {allowed : Bool} {r : AuthorityRequest} {o : Outcome} → authority.AuthorityComes (sight (OfAuthority r)) l g allowed r o → Roomy o
     authority-room (authority.stops x) = rows-room _ _ tt tt
     authority-room (authority.makes-principal a few room) = record { rows = few; links = room; grants = tt; store = tt; answer = tt }
     authority-room (authority.had-link a) = rows-room _ _ tt tt
@@ -111,7 +116,7 @@ module _
 
     -- ---- kinds 0A to 11
 
-    module _ (live : threadAt (t .threads) n .live ≡ true) where
+    module _ (live : isLive (threadAt (t .threads) n .live) ≡ true) where
       -- a live thread is one of the 16
       low : n < mostThreads
       low = omega (arith, live-among (t .threads) n live)
@@ -120,10 +125,11 @@ module _
       aside : threadAt (t .threads) n .calls ≤ mostPutAside
       aside =
           let r = threadAt (t .threads) n in
-          leb-true (r .calls) mostPutAside (implies (r .live) (leb (r .calls) mostPutAside) (rules .limits .calls n low) live)
+          leb-true (r .calls) mostPutAside
+          (implies (isLive (r .live)) (leb (r .calls) mostPutAside) (and-right (leb (r .live) 1) _ (rules .limits .threads n low)) live)
 
       -- the tests have shown the rest
-      thread-room : {allowed : Bool} {r : ThreadRequest} {o : Outcome} → thread.ThreadComes (sight (OfThread r)) l allowed r o → HasRoom w f o
+      thread-room : {allowed : Bool} {r : ThreadRequest} {o : Outcome} → thread.ThreadComes (sight (OfThread r)) l allowed r o → Roomy o
       thread-room (thread.stops x) = rows-room _ _ tt tt
       thread-room (thread.into-secrecy a) = rows-room _ _ tt low
       thread-room (thread.is-out a) = rows-room _ _ tt tt
@@ -139,7 +145,7 @@ module _
     -- ---- kinds 12 to 19
 
     -- an object in use is one of the 64
-    in-use : (o : ℕ) (k : What) → objectAt (t .objects) o .what ≡ k → isFree k ≡ false → o < mostObjects
+    in-use : (o : ℕ) (k : What) → whatOf (objectAt (t .objects) o) ≡ k → isFree k ≡ false → o < mostObjects
     in-use o k e used = omega (arith, used-among (t .objects) o (ap isFree e ∙ used))
 
     -- its places are there
@@ -150,7 +156,7 @@ module _
     places o low = omega (arith, rules .whole .store)
 
     -- messages that are put fit, and those that are answered are within the limit
-    object-room : {r : ObjectRequest} {o : Outcome} → ObjectSpans f r → object.ObjectComes (sight (OfObject r)) r o → HasRoom w f o
+    object-room : {r : ObjectRequest} {o : Outcome} → ObjectSpans f r → object.ObjectComes (sight (OfObject r)) r o → Roomy o
     object-room m (object.stops x) = rows-room _ _ tt tt
     object-room m (object.makes a b free) = rows-room _ _ tt free
     object-room m (object.deletes {o} used) = let low = in-use (o .0) _ refl used in both-room _ _ _ tt (places (o .0) low) low
@@ -171,7 +177,7 @@ module _
 
     module _ (allowed : Bool) where
       -- a request that passed 1 to 3
-      decided : (r : Request) → Spans f r → sight r .caller .live ≡ true → named (sight r) r ≡ true → HasRoom w f (decide (sight r) l g r allowed)
+      decided : (r : Request) → Spans f r → sight r .caller .live ≡ true → named (sight r) r ≡ true → Roomy (decide (sight r) l g r allowed)
       decided (OfAuthority r) fits live there = authority-room (authority.authority-comes (sight (OfAuthority r)) l g allowed r there)
       decided (OfThread r) fits live there = thread-room live (thread.thread-comes (sight (OfThread r)) l allowed r there)
       decided (OfObject r) fits live there = object-room fits (object.object-comes (sight (OfObject r)) r there)
@@ -179,7 +185,7 @@ module _
       decided (OfOutside (BringIn m)) fits live there = rows-room _ _ (fits .there, fits .short) tt
 
       -- and any other comes to a refusal
-      pub has-room : HasRoom w f (outcome t l g f allowed)
+      pub has-room : Roomy (outcome t l g f allowed)
       has-room =
-          outcome-ind t l g f allowed (HasRoom w f) (λ x. rows-room _ _ tt tt)
+          outcome-ind t l g f allowed (Roomy) (λ x. rows-room _ _ tt tt)
           (λ formed live there flow. decided (requestOf f) (spans-fit f formed) live there)

@@ -28,7 +28,6 @@ use Rattle.outcomes.specs.Outcomes.{refused}
 use Rattle.decide.specs.Decide.{decide}
 use Rattle.state.specs.declared.State.{State}
 use Rattle.step.specs.declared.Considered.{Considered}
-use Rattle.step.specs.declared.Replied.{Replied}
 use Rattle.step.specs.declared.Stepped.{Stepped}
 use Rattle.step.specs.World.{World, worldOf, applied}
 
@@ -60,29 +59,47 @@ module _ (s : Sight) (l g : List ℕ) (r : Request) where
   abbrev pub rowFollowed : Memory → Considered
   rowFollowed m = record { outcome = decide s l g r (askedIf (asks s r) m .yes); memory = askedIf (asks s r) m .memory }
 
--- ---- the request of frame f, with tables t, principal links l and tag links g
+-- ---- the request of frame f that sees s, with principal links l and tag links g
+
+module _ (s : Sight) (l g f : List ℕ) where
+  abbrev pub checkedBy : Checked
+  checkedBy = prelude s (kindOf f) (requestOf f)
+
+  -- "A question .. is asked by 06, 09, 0B and 0C, once, when the authority check is reached"
+  abbrev pub asksOneBy : Bool
+  asksOneBy = wellFormed f && (passes checkedBy && asks s (requestOf f))
+
+  abbrev pub askedBy : Memory → Asked
+  askedBy m = askedIf s l g (requestOf f) asksOneBy m
+
+  -- what it comes to, where its question is answered so: 1, then 2, 3 and 4, then 5 to 8 or what is done
+  unfoldable pub outcomeBy : Bool → Outcome
+  outcomeBy allowed = cond (not (wellFormed f)) (refused Malformed) (unlessStopped checkedBy (decide s l g (requestOf f) allowed))
+
+  -- with the memory m
+  abbrev pub consideredBy : Memory → Considered
+  consideredBy m = record { outcome = outcomeBy (askedBy m .yes); memory = askedBy m .memory }
+
+-- ---- the same with tables t: it sees what they show
 
 module _ (t : Tables) (l g f : List ℕ) where
   abbrev pub seen : Sight
   seen = sightOf t (threadOf f) (requestOf f)
 
   abbrev pub checked : Checked
-  checked = prelude seen (kindOf f) (requestOf f)
+  checked = checkedBy seen l g f
 
-  -- "A question .. is asked by 06, 09, 0B and 0C, once, when the authority check is reached"
   abbrev pub asksOne : Bool
-  asksOne = wellFormed f && (passes checked && asks seen (requestOf f))
+  asksOne = asksOneBy seen l g f
 
   abbrev pub asked : Memory → Asked
-  asked m = askedIf seen l g (requestOf f) asksOne m
+  asked m = askedBy seen l g f m
 
-  -- what it comes to, where its question is answered so: 1, then 2, 3 and 4, then 5 to 8 or what is done
-  unfoldable pub outcome : Bool → Outcome
-  outcome allowed = cond (not (wellFormed f)) (refused Malformed) (unlessStopped checked (decide seen l g (requestOf f) allowed))
+  abbrev pub outcome : Bool → Outcome
+  outcome allowed = outcomeBy seen l g f allowed
 
-  -- with the memory m
   abbrev pub considered : Memory → Considered
-  considered m = record { outcome = outcome (asked m .yes); memory = asked m .memory }
+  considered m = consideredBy seen l g f m
 
 -- ---- "A removal that takes out a link empties the memory; additions do not."
 
@@ -111,8 +128,13 @@ module _ (w : World) (m : Memory) (f : List ℕ) where
 
 -- ---- all that a request leaves
 
+-- its number or 0, how many bytes of the answer buffer were written, and the state
+pub record Replied : Type 0 where
+  pub status : ℕ
+  pub written : ℕ
+  pub state : State
+
 pub record After : Type 0 where
-  -- its number or 0, how many bytes were written, and the state
   pub replied : Replied
   -- the two lists, the store and the lent answer buffer
   pub links : List ℕ
@@ -146,6 +168,6 @@ module _ (s : State) (l g b f a : List ℕ) where
   abbrev pub stepped : After
   stepped = answeredWith (stepWorld w m f) (stepMemory w m f) (comesTo w m f .outcome .answer) (stepAnswer w m f) a
 
-  -- what it leaves beside the lent buffers, and what changes in the lists
+  -- what it gives beside the lent buffers, and what changes in the lists
   abbrev pub stepOf : Stepped
-  stepOf = record { replied = stepped .replied; links = comesTo w m f .outcome .links; grants = comesTo w m f .outcome .grants }
+  stepOf = record { status = stepped .replied .status; written = stepped .replied .written; links = comesTo w m f .outcome .links; grants = comesTo w m f .outcome .grants }

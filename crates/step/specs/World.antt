@@ -3,6 +3,8 @@
 use mathlib.Core.List.{List}
 use Prim.Native.Nat.{ℕ}
 use Rattle.tables.specs.declared.Tables.{Tables}
+use Rattle.tables.specs.declared.rows.ThreadRow.{ThreadRow}
+use Rattle.lent.specs.declared.Counts.{Counts}
 use Rattle.frames.specs.Requests.{threadOf}
 use Rattle.outcomes.specs.declared.Outcome.{Outcome}
 use Rattle.answers.specs.Answers.{Ready}
@@ -28,21 +30,21 @@ abbrev pub appliedTables : Tables → List ℕ → Outcome → Tables
 appliedTables t f o =
     withCounts (applyRows t (threadOf f .0) (o .rows)) (countAfter (o .links) (t .links)) (countAfter (o .grants) (t .grants))
 
-module _ (w : World) (f : List ℕ) (o : Outcome) where
-  -- what frame f came to is carried out
-  abbrev pub applied : World
-  applied =
-      record {
-        tables = appliedTables (w .tables) f o;
-        links = applyList (o .links) (w .tables .links) (w .links);
-        grants = applyList (o .grants) (w .tables .grants) (w .grants);
-        store = applyStore (o .store) f (w .store);
-      }
+-- what frame f came to is carried out
+abbrev pub applied : World → List ℕ → Outcome → World
+applied w f o =
+    record {
+      tables = appliedTables (w .tables) f o;
+      links = applyList (o .links) (w .tables .links) (w .links);
+      grants = applyList (o .grants) (w .tables .grants) (w .grants);
+      store = applyStore (o .store) f (w .store);
+    }
 
-  -- there is room for what is new, what changes is there, and so is the message of an answer
-  pub record HasRoom : Type 0 where
-    pub rows : RowFits (w .tables) (threadOf f .0) (o .rows)
-    pub links : ListFits (o .links) (w .tables .links)
-    pub grants : ListFits (o .grants) (w .tables .grants)
-    pub store : StoreFits (o .store) f (w .store)
-    pub answer : Ready f (w .store) (o .answer)
+-- there is room for what is new, what changes is there, and so is the message of an answer: with these counts, the caller's own row,
+-- the store b and the frame f
+pub record HasRoom (c : Counts) (own : ThreadRow) (b f : List ℕ) (o : Outcome) : Type 0 where
+  pub rows : RowFits (c .principals) (c .tags) (threadOf f .0) own (o .rows)
+  pub links : ListFits (o .links) (c .links)
+  pub grants : ListFits (o .grants) (c .grants)
+  pub store : StoreFits (o .store) f b
+  pub answer : Ready f b (o .answer)

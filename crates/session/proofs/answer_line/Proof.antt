@@ -14,6 +14,7 @@ use Rattle.entry.specs.declared.Lists.{Lists}
 use Rattle.entry.specs.Entry.{overRecords, listsOf}
 use Rattle.state.specs.declared.State.{State}
 use Rattle.step.specs.Step.{After}
+use Rattle.session.specs.Session.{repliedIn}
 use Rattle.session.proofs.Answering.{frame-read, frame-count, frame-fits, when-frame, lists-frame, when-none, lists-none}
 use Rattle.session.proofs.answer_line.Statement.{statement}
 use Rattle.session.proofs.answer_line.Tie as tie
@@ -63,7 +64,7 @@ answer-line-spec =
     let r = frame-read (z d) (replicate 36 0) (c .before .before .before .before .before .before .before .before .before .frame-of .last .1 .0) f (c .before .before .before .before .before .before .before .before .before .frame-of .ensures .1) in
     let p = ap (λ (v : List ℕ). overRecords (s d) (x d .links) (x d .grants) (b d) v (a d)) r in
     let q = p ∙ when-frame (s d) (x d) (b d) (z d) (a d) f in (
-      ap (λ (v : Answered). v .replied) (e .0) ∙ ap (λ (v : After). v .replied) q,
+      ap repliedIn (e .0) ∙ ap (λ (v : After). v .replied) q,
       (
         ap (λ (v : Answered). v .lists) (e .0) ∙ ap listsOf p ∙ lists-frame (s d) (x d) (b d) (z d) (a d) f,
         (e .1 .0 ∙ ap (λ (v : After). v .store) q, e .1 .1 ∙ ap (λ (v : After). v .answer) q),

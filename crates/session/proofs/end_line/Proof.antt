@@ -10,7 +10,7 @@ use lib.Seq.{length-take-le, take-all}
 use Rattle.store.specs.Store.{over}
 use Rattle.monitor.specs.Monitor.{shortestBuffer}
 use Rattle.step.specs.Step.{After}
-use Rattle.session.specs.Session.{Session, sessionOf, lineBytes, lineAnswered, answeredLists, turn}
+use Rattle.session.specs.Session.{Session, repliedIn, sessionOf, lineBytes, lineAnswered, answeredLists, turn}
 use Rattle.session.proofs.Answering.{LineAnswered, written-fits, written-short, written-count, printed-is, end-is}
 use Rattle.session.proofs.end_line.Statement.{statement}
 use Rattle.session.proofs.end_line.Tie as tie
@@ -45,7 +45,7 @@ module _ (c : tie.After-answer-line) where
   is-turn : lineAnswered (z .state) (z .lists) (z .store) (take (c .before .before .before .before .if1 .n) (z .line .bytes)) (replicate shortestBuffer 0) ≡ turn z
   is-turn = ap (λ (x : List ℕ). lineAnswered (z .state) (z .lists) (z .store) x (replicate shortestBuffer 0)) (same (c .before .before .before .before))
 
-  answered : LineAnswered z (c .answer-line .result .replied) (c .answer-line .last .1 .1 .1 .1 .0)
+  answered : LineAnswered z (repliedIn (c .answer-line .result)) (c .answer-line .last .1 .1 .1 .1 .0)
   answered =
       record {
         reply = c .answer-line .ensures .0 ∙ ap (λ (x : After). x .replied) is-turn;
