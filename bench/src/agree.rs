@@ -125,6 +125,8 @@ impl Seen {
 }
 
 impl Tally for Seen {
+    const LONG_RUN: u64 = 1000;
+
     fn print(&self, output: &mut dyn Write) -> io::Result<()> {
         let asked: u64 = self.answers.values().flatten().sum();
         writeln!(output, "{} questions\n", asked)?;

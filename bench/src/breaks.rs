@@ -1,16 +1,17 @@
-//! The rules of 9 broken one at a time, each in several ways, in the plain form. The
-//! rules have the names that the second program gives them. Where a break might make
-//! remembered pairs untrue as well, they are forgotten.
+//! The rules of 9 broken one at a time, each in several ways. The rules have the names
+//! that the second program gives them. Where a break might make remembered pairs untrue
+//! as well, they are forgotten.
 
+mod lists;
 mod memory;
 mod objects;
 mod tags;
 mod threads;
 
-use crate::form::{Fields, PlainForm, LINKS, PRINCIPALS, TAGS, TAG_LINKS};
-use crate::list_damage::*;
-use crate::questions::{Lent, List};
+use crate::buffers::Buffers;
+use crate::list_damage::Damage;
 use crate::random::Random;
+use second::entry::clear;
 use second::memory::Pair;
 use second::places::Places;
 use second::rules::Rule;
@@ -19,48 +20,16 @@ use second::things::*;
 #[derive(Clone, Copy)]
 pub enum Break {
     Links(Damage),
-    TagLinks(Damage),
-    Form(OfForm),
+    Grants(Damage),
     Places(OfPlaces),
+    /// For what the second program's places cannot hold.
+    Buffers(OfBuffers),
 }
 
-/// Done to the plain form itself, for what the second program's places cannot hold.
 /// None, here and below, if there is nothing to break.
-type OfForm = fn(&mut Random, &mut PlainForm) -> Option<()>;
-
-/// Done to the second program's places.
 type OfPlaces = fn(&mut Random, &mut Places) -> Option<()>;
 
-/// A rule on principal links, the same on tag links, and what breaks them.
-const OF_LISTS: &[(Rule, Rule, &[Damage])] = &[
-    (
-        Rule::PrincipalLinkLimit,
-        Rule::TagLinkLimit,
-        &[count_over_full, count_over_full, count_over_length],
-    ),
-    (
-        Rule::PrincipalLinkPlaces,
-        Rule::TagLinkPlaces,
-        &[other_number_of_places],
-    ),
-    (
-        Rule::UnmadeInPrincipalLink,
-        Rule::UnmadeInTagLink,
-        &[unmade_end, unmade_tag],
-    ),
-    (Rule::PrincipalCycle, Rule::TagCycle, &[cycle, self_link]),
-    (Rule::DoubledPrincipalLink, Rule::DoubledTagLink, &[doubled]),
-    (
-        Rule::PrincipalLinkToPublic,
-        Rule::TagLinkToPublic,
-        &[to_the_public],
-    ),
-    (
-        Rule::UnusedPrincipalLink,
-        Rule::UnusedTagLink,
-        &[unused_place],
-    ),
-];
+type OfBuffers = fn(&mut Random, &mut Buffers) -> Option<()>;
 
 /// A rule and what breaks it. A way stands more than once if the other seldom breaks
 /// the rule alone.
@@ -68,52 +37,34 @@ type Ways = (Rule, &'static [OfPlaces]);
 
 /// Some way to break some rule, every rule about as often.
 pub fn any_break(random: &mut Random) -> (Rule, Break) {
-    let (on_links, on_tag_links, damages) = random.pick(OF_LISTS);
+    let (on_links, on_grants, damages) = random.pick(lists::OF_BOTH);
+    let (on_tags, of_tags) = lists::OF_GRANTS;
     let of_places = [tags::WAYS, threads::WAYS, objects::WAYS, memory::WAYS];
     let (rule, ways) = random.pick(&of_places.concat());
-    let (on_form, of_form) = random.pick(memory::OF_FORM);
+    let (on_buffers, of_buffers) = random.pick(memory::OF_BUFFERS);
     match random.below(24) {
         0..=3 => (on_links, Break::Links(random.pick(damages))),
-        4..=7 => (on_tag_links, Break::TagLinks(random.pick(damages))),
-        8 => (on_form, Break::Form(of_form)),
+        4..=7 => (on_grants, Break::Grants(random.pick(damages))),
+        8 => (on_tags, Break::Grants(of_tags)),
+        9 => (on_buffers, Break::Buffers(of_buffers)),
         _ => (rule, Break::Places(random.pick(ways))),
     }
 }
 
 impl Break {
-    pub fn apply(self, random: &mut Random, form: &mut PlainForm) -> Option<()> {
-        let fields = form.fields();
-        let fields = Fields(&fields);
-        let principals = fields.short(PRINCIPALS).clamp(2, 64);
-        let made = |tags| Made { principals, tags };
-        match self {
-            Break::Links(damage) => {
-                let mut list = list(form.lent_links(fields));
-                damage(random, &mut list, made(1))?;
-                form.set(LINKS, list.count as u64);
-                form.links = list.places;
-            }
-            Break::TagLinks(damage) => {
-                let mut list = list(form.lent_tag_links(fields));
-                damage(random, &mut list, made(fields.short(TAGS).min(64)))?;
-                form.set(TAG_LINKS, list.count as u64);
-                form.tag_links = list.places;
-            }
-            Break::Form(change) => change(random, form)?,
-            Break::Places(change) => {
-                let mut places = form.places();
-                change(random, &mut places)?;
-                *form = PlainForm::saying(&places).expect("every break can be said");
-            }
+    pub fn apply(self, random: &mut Random, lent: &mut Buffers) -> Option<()> {
+        if let Break::Buffers(change) = self {
+            return change(random, lent);
         }
+        let mut places = lent.places();
+        match self {
+            Break::Links(damage) => lists::damage_links(random, &mut places, damage)?,
+            Break::Grants(damage) => lists::damage_grants(random, &mut places, damage)?,
+            Break::Places(change) => change(random, &mut places)?,
+            Break::Buffers(_) => {}
+        }
+        *lent = Buffers::from(&places);
         Some(())
-    }
-}
-
-fn list(lent: Lent) -> List {
-    List {
-        places: lent.places.to_vec(),
-        count: lent.count,
     }
 }
 
@@ -132,11 +83,6 @@ fn some_unmade_tag(random: &mut Random, p: &Places) -> Option<Tag> {
 fn some_unmade_label(random: &mut Random, p: &Places) -> Option<u64> {
     let unmade = random.some((0..MAX_TAGS).filter(|n| *n >= p.tag_count))?;
     Some(1 << unmade)
-}
-
-fn forget(p: &mut Places) {
-    p.memory.held = 0;
-    p.memory.pairs = [Pair::default(); MAX_MEMORY];
 }
 
 fn when(condition: bool) -> Option<()> {

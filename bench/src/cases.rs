@@ -1,22 +1,56 @@
-//! What the two comparisons share: seeded cases one after the other, each with a seed
-//! of its own by which it can be run alone; the first difference, printed; and what
-//! was seen on the way, as a long run must have seen everything. The command with its
-//! seed is printed first, in case the run breaks off.
+//! What the comparisons share: seeded cases one after the other, each with a seed of its
+//! own by which it can be run alone; the first difference, printed; and what was seen on
+//! the way, as a long run must have seen everything. The command with its seed is
+//! printed first, in case the run breaks off.
 
 use crate::random::Random;
 use std::io::{self, Write};
-
-/// A run of so many cases must have seen everything.
-const LONG_RUN: u64 = 1000;
+use std::time::{Duration, Instant};
 
 pub struct Run {
     pub command: &'static str,
-    pub cases: u64,
+    pub length: Length,
     pub seed: u64,
+}
+
+#[derive(Clone, Copy)]
+pub enum Length {
+    /// So many cases.
+    Cases(u64),
+    /// Cases until so many seconds have passed, one at least.
+    Seconds(u64),
+}
+
+impl Length {
+    fn number(self) -> u64 {
+        match self {
+            Length::Cases(number) | Length::Seconds(number) => number,
+        }
+    }
+
+    /// The number with which one case is run.
+    fn of_one(self) -> u64 {
+        match self {
+            Length::Cases(_) => 1,
+            Length::Seconds(_) => 0,
+        }
+    }
+
+    fn is_over(self, cases: u64, since: Instant) -> bool {
+        match self {
+            Length::Cases(number) => cases >= number,
+            Length::Seconds(seconds) => {
+                cases > 0 && since.elapsed() >= Duration::from_secs(seconds)
+            }
+        }
+    }
 }
 
 /// What was seen in the cases of a run.
 pub trait Tally: Default {
+    /// A run of so many cases must have seen everything.
+    const LONG_RUN: u64;
+
     fn print(&self, output: &mut dyn Write) -> io::Result<()>;
 
     /// In words, what should have been seen and was not.
@@ -31,24 +65,36 @@ impl Run {
         output: &mut dyn Write,
         case: impl Fn(&mut Random, &mut T) -> Result<(), String>,
     ) -> io::Result<bool> {
-        let (command, cases, seed) = (self.command, self.cases, self.seed);
-        writeln!(output, "bench {} {} {}", command, cases, seed)?;
+        let (command, length) = (self.command, self.length);
+        writeln!(
+            output,
+            "bench {} {} {}",
+            command,
+            length.number(),
+            self.seed
+        )?;
         let mut tally = T::default();
-        let mut case_seed = seed;
-        for number in 0..cases {
-            let mut random = Random::new(case_seed);
+        let (mut cases, mut seed, since) = (0, self.seed, Instant::now());
+        while !length.is_over(cases, since) {
+            let mut random = Random::new(seed);
             let next_seed = random.draw();
             if let Err(difference) = case(&mut random, &mut tally) {
-                writeln!(output, "a difference in case {}", number)?;
-                writeln!(output, "to run it alone: bench {} 1 {}", command, case_seed)?;
+                writeln!(output, "a difference in case {}", cases)?;
+                let one = length.of_one();
+                writeln!(
+                    output,
+                    "to run it alone: bench {} {} {}",
+                    command, one, seed
+                )?;
                 writeln!(output, "{}", difference)?;
                 return Ok(false);
             }
-            case_seed = next_seed;
+            seed = next_seed;
+            cases += 1;
         }
-        writeln!(output, "all cases agree\n")?;
+        writeln!(output, "all {} cases agree\n", cases)?;
         tally.print(output)?;
-        Ok(cases < LONG_RUN || missed_nothing(&tally, output)?)
+        Ok(cases < T::LONG_RUN || missed_nothing(&tally, output)?)
     }
 }
 

@@ -1,6 +1,9 @@
-//! What needs no proved function: plain Rust, and the forms in which tables pass.
-//! Both programs take it from here, and only `bench` links the proved functions.
+//! What needs no proved function: plain Rust, the forms in which tables pass, and the
+//! report of a benchmark. Both programs take it from here, and only `bench` links the
+//! proved functions.
 
-pub mod form;
+#[cfg(feature = "proved")]
+pub mod buffers;
 pub mod plain;
 pub mod questions;
+pub mod report;

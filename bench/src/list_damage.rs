@@ -67,7 +67,7 @@ pub fn unmade_end(random: &mut Random, list: &mut List, made: Made) -> Option<()
 
 pub fn unmade_tag(random: &mut Random, list: &mut List, made: Made) -> Option<()> {
     let any = made.tags + random.below(65536 - made.tags);
-    let tag = random.pick(&[made.tags, any, 65535]);
+    let tag = random.pick(&[made.tags, 255, any, 65535]);
     let to = some_but_public(random, made);
     put(random, list, number(tag, PUBLIC, to), &[])
 }
@@ -101,7 +101,7 @@ pub fn other_number_of_places(random: &mut Random, list: &mut List, _: Made) -> 
 
 pub fn unused_place(random: &mut Random, list: &mut List, _: Made) -> Option<()> {
     let place = random.some(list.count..list.places.len())?;
-    list.places[place] = random.pick(&[1, 256, 65536, u32::MAX]);
+    list.places[place] = random.pick(&[1, 256, 65535, 65536, 0xFF_FFFF, u32::MAX]);
     Some(())
 }
 

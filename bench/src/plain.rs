@@ -4,10 +4,10 @@
 pub mod lines;
 mod monitor;
 mod rows;
-mod rules;
+#[cfg(feature = "proved")]
+pub mod rules;
 mod walk;
 
-use crate::form::PlainForm;
 use crate::questions::{Functions, Lent, Rooted, Tables};
 use rows::{links_hold, no_links};
 use walk::{has, led_to_from, only};
@@ -45,10 +45,6 @@ impl Functions for PlainRust {
             return links_hold(&mut no_links::<FEW_TAGS>(), tag_links, tags, principals);
         }
         links_hold(&mut no_links::<TAGS>(), tag_links, tags, principals)
-    }
-
-    fn break_no_rule(&self, form: &PlainForm) -> bool {
-        rules::break_no_rule(form)
     }
 }
 

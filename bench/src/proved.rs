@@ -1,8 +1,7 @@
-//! The proved functions, from the static libraries of the crates `links_c` and
-//! `rules_c`. Nothing checks these declarations against their sources, so they are
-//! kept few. Each function takes every value: no contract of them has a `requires`.
+//! The proved functions on links, from the static library of the crate `links_c`.
+//! Nothing checks these declarations against their sources, so they are kept few. Each
+//! function takes every value: no contract of them has a `requires`.
 
-use crate::form::PlainForm;
 use crate::questions::{Functions, Lent, Rooted, Tables};
 
 /// A lent list has a line of its own.
@@ -40,16 +39,6 @@ mod c {
         pub fn links_tag_links_hold(
             links: *const u32, places: usize, n: usize,
             tags: u32, principals: u32,
-        ) -> bool;
-    }
-
-    #[link(name = "rules_c", kind = "static")]
-    extern "C" {
-        pub fn rules_break_no_rule(
-            numbers: *const u64, numbers_len: usize,
-            links: *const u32, links_len: usize,
-            tag_links: *const u32, tag_links_len: usize,
-            store: *const u8, store_len: usize,
         ) -> bool;
     }
 }
@@ -91,23 +80,6 @@ impl Functions for Proved {
     fn tag_links_hold(&self, tag_links: Lent, tags: u32, principals: u32) -> bool {
         let (at, places, n) = passed(tag_links);
         unsafe { c::links_tag_links_hold(at, places, n, tags, principals) }
-    }
-
-    fn break_no_rule(&self, form: &PlainForm) -> bool {
-        let (numbers, links) = (&form.numbers, &form.links);
-        let (tag_links, store) = (&form.tag_links, &form.store);
-        unsafe {
-            c::rules_break_no_rule(
-                numbers.as_ptr(),
-                numbers.len(),
-                links.as_ptr(),
-                links.len(),
-                tag_links.as_ptr(),
-                tag_links.len(),
-                store.as_ptr(),
-                store.len(),
-            )
-        }
     }
 }
 

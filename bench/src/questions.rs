@@ -3,7 +3,6 @@
 //! A link is a number: P * 256 + Q for a principal link (P, Q), and
 //! (T * 256 + P) * 256 + Q for a link (T, P, Q) of a tag.
 
-use crate::form::PlainForm;
 use second::places::used;
 
 /// A lent list, a link a place. The count says how many places are in use, and may lie.
@@ -24,14 +23,14 @@ impl List {
 
 /// The places of a list, lent to a function, and the count beside them.
 #[derive(Clone, Copy)]
-pub struct Lent<'a> {
-    pub places: &'a [u32],
+pub struct Lent<'a, Link = u32> {
+    pub places: &'a [Link],
     pub count: usize,
 }
 
-impl<'a> Lent<'a> {
+impl<'a, Link> Lent<'a, Link> {
     /// The places in use, as far as they exist.
-    pub fn used(self) -> &'a [u32] {
+    pub fn used(self) -> &'a [Link] {
         used(self.places, self.count)
     }
 }
@@ -85,8 +84,6 @@ pub trait Functions {
     fn authoritative_sub(&self, tables: &Tables, own: Rooted, above: Rooted, p: u8) -> bool;
     fn principal_links_hold(&self, links: Lent, principals: u32) -> bool;
     fn tag_links_hold(&self, tag_links: Lent, tags: u32, principals: u32) -> bool;
-    /// The check of 9 on whole tables.
-    fn break_no_rule(&self, form: &PlainForm) -> bool;
 }
 
 pub fn answer(functions: &dyn Functions, tables: &Tables, question: Question) -> bool {

@@ -1,97 +1,37 @@
 //! Seeded clean tables of all sizes, from fresh to full, that break no rule of 9. The
 //! remembered pairs are true because each was found by going along the links.
 
-use crate::graphs::{any_order, any_shape, graph, parts, shared_out, Shape};
+mod sizes;
+
+pub use sizes::{Sizes, FULL, NEARLY_EMPTY};
+
+use crate::graphs::{any_order, graph, parts, shared_out};
 use crate::random::Random;
 use second::authority::{Authority, Link, TagLink, TagRow};
 use second::memory::{Memory, Pair};
 use second::state::{Contents, ObjectRow, State, ThreadRow};
 use second::things::*;
+use sizes::{amount, any_sizes, small_sizes};
 use std::collections::BTreeMap;
-
-/// How much of everything there is. There are at least 2 principals; links and pairs
-/// are so many as far as there are different ones.
-#[derive(Clone, Copy)]
-pub struct Sizes {
-    pub principals: u32,
-    pub links: usize,
-    pub tags: u32,
-    pub tag_links: usize,
-    /// Of each graph.
-    pub shape: Shape,
-    /// The first principal that links leave: 0 or 1.
-    pub first: u32,
-    pub threads: usize,
-    pub objects: usize,
-    pub memory: usize,
-    pub pairs: usize,
-}
-
-pub const FULL: Sizes = Sizes {
-    principals: 64,
-    links: 256,
-    tags: 64,
-    tag_links: 256,
-    shape: Shape::Scattered,
-    first: 0,
-    threads: 16,
-    objects: 64,
-    memory: 64,
-    pairs: 64,
-};
-
-pub const NEARLY_EMPTY: Sizes = Sizes {
-    principals: 3,
-    links: 2,
-    tags: 1,
-    tag_links: 1,
-    shape: Shape::Chain,
-    first: 0,
-    threads: 1,
-    objects: 2,
-    memory: 8,
-    pairs: 1,
-};
 
 pub fn any_sound(random: &mut Random) -> State {
     let any = any_sizes(random);
     let Sizes { shape, first, .. } = any;
+    let full = Sizes {
+        shape,
+        first,
+        ..FULL
+    };
     match random.below(8) {
         0 => State::fresh(any.memory),
         1 => sound(random, NEARLY_EMPTY),
-        2 | 3 => sound(
-            random,
-            Sizes {
-                shape,
-                first,
-                ..FULL
-            },
-        ),
+        2 | 3 => {
+            let small = small_sizes(random, any);
+            sound(random, small)
+        }
+        4 | 5 => sound(random, full),
         _ => sound(random, any),
     }
-}
-
-fn any_sizes(random: &mut Random) -> Sizes {
-    let memory = amount(random, MAX_MEMORY);
-    Sizes {
-        principals: amount(random, MAX_PRINCIPALS - MIN_PRINCIPALS) as u32 + 2,
-        links: amount(random, MAX_LINKS),
-        tags: amount(random, MAX_TAGS) as u32,
-        tag_links: amount(random, MAX_LINKS),
-        shape: any_shape(random),
-        first: random.below(2),
-        threads: amount(random, MAX_THREADS),
-        objects: amount(random, MAX_OBJECTS),
-        memory,
-        pairs: amount(random, memory),
-    }
-}
-
-/// None, a few, the most there may be, or any number between.
-fn amount(random: &mut Random, most: usize) -> usize {
-    let few = random.below(4) as usize;
-    let any = random.below(most as u32 + 1) as usize;
-    random.pick(&[0, few.min(most), most, any])
 }
 
 pub fn sound(random: &mut Random, sizes: Sizes) -> State {
@@ -123,7 +63,7 @@ fn authority(random: &mut Random, sizes: Sizes) -> Authority {
     }
 }
 
-fn tag_link(number: u32) -> TagLink {
+pub fn tag_link(number: u32) -> TagLink {
     let (tag, from, to) = parts(number);
     TagLink {
         tag: Tag(tag as u8),
@@ -178,7 +118,7 @@ fn label(random: &mut Random, sizes: Sizes) -> Label {
         tags => u64::MAX >> (64 - tags),
     };
     let any = random.draw();
-    Label::from_bits(random.pick(&[0, any, u64::MAX]) & made)
+    Label::from_bits(random.pick(&[0, 0, any, u64::MAX]) & made)
 }
 
 fn object(random: &mut Random, sizes: Sizes) -> ObjectRow {

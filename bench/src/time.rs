@@ -2,22 +2,22 @@
 //! turns, the best of many batches. The tables are warm in the cache; the rows of
 //! bits are cleared by the functions themselves, and that is counted.
 
-use crate::form::PlainForm;
+mod batches;
+
+use crate::buffers::Buffers;
 use crate::graphs::{any_order, graph, list, shared_out, zigzag_order, Shape};
-use crate::plain::PlainRust;
-use crate::proved::Proved;
-use crate::questions::{answer, Functions, Question, Rooted, Tables};
+use crate::questions::{Question, Rooted, Tables};
 use crate::random::Random;
 use crate::sound::{sound, Sizes, FULL, NEARLY_EMPTY};
+use batches::{improve, start, Measured};
 use second::authority::Authority;
 use second::state::State;
 use second::things::LINE_MEMORY;
 use std::io::{self, Write};
-use std::time::{Duration, Instant};
+use std::time::Duration;
 
 const SEED: u64 = 1;
 const BATCHES: u32 = 40;
-const BATCH: Duration = Duration::from_millis(2);
 
 /// A walk takes at most so many times as long as in plain Rust; so does a test of a
 /// whole list or of whole tables.
@@ -34,13 +34,7 @@ struct Case {
 enum Asked {
     OfLinks(Tables, Question),
     /// Whether whole tables break no rule.
-    OfAll(PlainForm),
-}
-
-struct Measured {
-    proved: Duration,
-    plain: Duration,
-    asked: u32,
+    OfAll(Box<Buffers>),
 }
 
 pub fn time(output: &mut dyn Write) -> io::Result<()> {
@@ -155,7 +149,7 @@ fn whole_list(name: &'static str, tables: Tables, question: Question) -> Case {
 }
 
 fn whole_tables(name: &'static str, state: &State) -> Case {
-    whole(name, Asked::OfAll(PlainForm::from(state)))
+    whole(name, Asked::OfAll(Box::new(Buffers::from(state))))
 }
 
 fn whole(name: &'static str, asked: Asked) -> Case {
@@ -191,59 +185,6 @@ fn tables(random: &mut Random, links: Vec<u32>, tag_links: Vec<u32>, tags: u32) 
         links: list(random, links),
         tag_links: list(random, tag_links),
     }
-}
-
-/// Finds how many questions fill a batch.
-fn start(case: &Case) -> Measured {
-    let mut asked = 1;
-    loop {
-        let proved = batch(&Proved, case, asked);
-        let plain = batch(&PlainRust, case, asked);
-        if proved.min(plain) >= BATCH {
-            return Measured {
-                proved,
-                plain,
-                asked,
-            };
-        }
-        asked *= 2;
-    }
-}
-
-/// One batch each, the proved one first at every other turn.
-fn improve(case: &Case, best: &mut Measured, turn: u32) {
-    let proved_first = turn % 2 == 0;
-    for proved in [proved_first, !proved_first] {
-        if proved {
-            best.proved = best.proved.min(batch(&Proved, case, best.asked));
-        } else {
-            best.plain = best.plain.min(batch(&PlainRust, case, best.asked));
-        }
-    }
-}
-
-fn batch(functions: &dyn Functions, case: &Case, asked: u32) -> Duration {
-    let mut expected = 0;
-    let before = Instant::now();
-    for _ in 0..asked {
-        let functions = hidden(functions);
-        let yes = match &case.asked {
-            Asked::OfLinks(tables, question) => {
-                answer(functions, hidden(tables), hidden(*question))
-            }
-            Asked::OfAll(form) => functions.break_no_rule(hidden(form)),
-        };
-        expected += u32::from(yes == case.answer);
-    }
-    let took = before.elapsed();
-    assert_eq!(expected, asked, "a wrong answer: {}", case.name);
-    took
-}
-
-/// The same value, but the compiler cannot tell.
-fn hidden<T: Copy>(value: T) -> T {
-    // Sound: the pointer is that of a live value.
-    unsafe { std::ptr::read_volatile(&value) }
 }
 
 fn print(case: &Case, best: &Measured, output: &mut dyn Write) -> io::Result<()> {

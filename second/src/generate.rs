@@ -9,6 +9,7 @@ mod passages;
 pub mod random;
 
 use crate::kinds::*;
+use crate::state::State;
 use draft::Draft;
 use passages::*;
 
@@ -240,6 +241,12 @@ pub fn generate(seed: u64, profile: &Profile) -> Vec<u8> {
         passage(&mut draft);
     }
     draft.finish()
+}
+
+/// A well-formed frame of a kind for these tables, with operands from what is there;
+/// one that is answered as wished if it can be drawn.
+pub fn frame(state: &State, kind: u8, wished: u8, seed: u64) -> Vec<u8> {
+    Draft::on(state.clone(), seed).aimed(kind, wished)
 }
 
 /// List number `n` of a run: all profiles in turn, each list with its own seed.

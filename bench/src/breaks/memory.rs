@@ -1,10 +1,9 @@
 //! Breaks of the remembered answers.
 
 use super::*;
-use crate::form::{HELD, PAIRS};
+use crate::buffers::raw::Memory;
 use second::authority::Link;
 use second::places::{used, MemoryPlaces};
-use std::ops::Range;
 
 pub const WAYS: &[Ways] = &[
     (Rule::MemoryOver64, &[too_large]),
@@ -109,29 +108,23 @@ fn more_hits(random: &mut Random, p: &mut Places) -> Option<()> {
 }
 
 /// A principal of 256 or more.
-pub const OF_FORM: &[(Rule, OfForm)] = &[
+pub const OF_BUFFERS: &[(Rule, OfBuffers)] = &[
     (Rule::UnmadeInPair, wide_pair),
     (Rule::UnusedPair, wide_unused_pair),
 ];
 
-fn wide_pair(random: &mut Random, form: &mut PlainForm) -> Option<()> {
-    let held = held_pairs(form);
-    widen(random, form, 0..held)
+fn wide_pair(random: &mut Random, lent: &mut Buffers) -> Option<()> {
+    let Memory { held, pairs, .. } = &mut lent.state.memory;
+    widen(random, pairs.iter_mut().take(*held))
 }
 
-fn wide_unused_pair(random: &mut Random, form: &mut PlainForm) -> Option<()> {
-    let held = held_pairs(form);
-    widen(random, form, held..MAX_MEMORY)
+fn wide_unused_pair(random: &mut Random, lent: &mut Buffers) -> Option<()> {
+    let Memory { held, pairs, .. } = &mut lent.state.memory;
+    widen(random, pairs.iter_mut().skip(*held))
 }
 
-fn held_pairs(form: &PlainForm) -> usize {
-    Fields(&form.fields()).count(HELD).min(MAX_MEMORY)
-}
-
-fn widen(random: &mut Random, form: &mut PlainForm, pairs: Range<usize>) -> Option<()> {
-    let place = PAIRS + random.some(pairs)?;
-    let pair = form.fields()[place];
-    form.set(place, pair | 65536 << random.below(16));
+fn widen<'a>(random: &mut Random, pairs: impl Iterator<Item = &'a mut u32>) -> Option<()> {
+    *random.some(pairs)? |= 65536 << random.below(16);
     Some(())
 }
 

@@ -10,7 +10,13 @@ pub const WAYS: &[Ways] = &[
         Rule::UnmadeInObjectLabel,
         &[unmade_in_secrecy, unmade_in_integrity],
     ),
-    (Rule::UnusedObject, &[freed_with_label]),
+    (Rule::FlagLimit, &[live_flag, lock_flag]),
+    (Rule::ObjectKindLimit, &[unknown_kind]),
+    (Rule::UnusedObject, &[freed_with_something]),
+    (
+        Rule::UnusedObjectField,
+        &[messages_of_no_queue, lock_of_no_lock],
+    ),
     (Rule::MessageLimit, &[too_long_message]),
     (Rule::MessageStorePlaces, &[other_store]),
     (Rule::UnusedMessage, &[unused_message]),
@@ -18,9 +24,36 @@ pub const WAYS: &[Ways] = &[
 ];
 
 fn too_many_messages(random: &mut Random, p: &mut Places) -> Option<()> {
-    let is_queue = |o: &&mut ObjectPlace| o.live == 1 && o.kind == ObjectKind::Queue as u8;
-    let queue = random.some(p.objects.iter_mut().filter(is_queue))?;
-    queue.held = random.pick(&[9, 10, 256, 1 << 32, usize::MAX - 4]);
+    let is_queue = |o: &ObjectPlace| is(o, ObjectKind::Queue);
+    some_where(random, p, is_queue)?.held = random.pick(&[9, 10, 256, 1 << 32, usize::MAX]);
+    Some(())
+}
+
+fn live_flag(random: &mut Random, p: &mut Places) -> Option<()> {
+    some_object(random, p, 1)?.live = random.pick(&[2, 128, u8::MAX]);
+    Some(())
+}
+
+fn lock_flag(random: &mut Random, p: &mut Places) -> Option<()> {
+    let is_lock = |o: &ObjectPlace| is(o, ObjectKind::Lock);
+    some_where(random, p, is_lock)?.locked = random.pick(&[2, 128, u8::MAX]);
+    Some(())
+}
+
+fn unknown_kind(random: &mut Random, p: &mut Places) -> Option<()> {
+    some_object(random, p, 1)?.kind = random.pick(&[3, 128, u8::MAX]);
+    Some(())
+}
+
+fn messages_of_no_queue(random: &mut Random, p: &mut Places) -> Option<()> {
+    let is_no_queue = |o: &ObjectPlace| !is(o, ObjectKind::Queue);
+    some_where(random, p, is_no_queue)?.held = random.pick(&[1, 8, 9, usize::MAX]);
+    Some(())
+}
+
+fn lock_of_no_lock(random: &mut Random, p: &mut Places) -> Option<()> {
+    let is_no_lock = |o: &ObjectPlace| !is(o, ObjectKind::Lock);
+    some_where(random, p, is_no_lock)?.locked = 1;
     Some(())
 }
 
@@ -36,11 +69,16 @@ fn unmade_in_integrity(random: &mut Random, p: &mut Places) -> Option<()> {
     Some(())
 }
 
-fn freed_with_label(random: &mut Random, p: &mut Places) -> Option<()> {
+fn freed_with_something(random: &mut Random, p: &mut Places) -> Option<()> {
     let tag = random.some(0..64)?;
     let object = some_object(random, p, 0)?;
-    let label = random.pick(&[0, 1]);
-    *[&mut object.secrecy, &mut object.integrity][label] = 1 << tag;
+    match random.below(5) {
+        0 => object.kind = random.pick(&[1, 2, 3, u8::MAX]),
+        1 => object.held = random.pick(&[1, usize::MAX]),
+        2 => object.locked = random.pick(&[1, u8::MAX]),
+        3 => object.secrecy = 1 << tag,
+        _ => object.integrity = 1 << tag,
+    }
     Some(())
 }
 
@@ -50,6 +88,20 @@ fn some_object<'a>(
     live: u8,
 ) -> Option<&'a mut ObjectPlace> {
     random.some(p.objects.iter_mut().filter(|o| o.live == live))
+}
+
+/// Some live object that meets a condition.
+fn some_where<'a>(
+    random: &mut Random,
+    p: &'a mut Places,
+    condition: fn(&ObjectPlace) -> bool,
+) -> Option<&'a mut ObjectPlace> {
+    let live = p.objects.iter_mut().filter(|o| o.live == 1);
+    random.some(live.filter(|o| condition(o)))
+}
+
+fn is(o: &ObjectPlace, kind: ObjectKind) -> bool {
+    o.kind == kind as u8
 }
 
 fn too_long_message(random: &mut Random, p: &mut Places) -> Option<()> {
@@ -94,6 +146,6 @@ fn messages(p: &mut Places, in_use: bool) -> impl Iterator<Item = &mut [u8]> {
 
 /// A cell holds one message.
 fn held(o: &ObjectPlace) -> usize {
-    let cell = o.live == 1 && o.kind == ObjectKind::Cell as u8;
-    o.held + usize::from(cell)
+    let cell = o.live == 1 && is(o, ObjectKind::Cell);
+    o.held.saturating_add(usize::from(cell))
 }

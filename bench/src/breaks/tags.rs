@@ -21,6 +21,8 @@ pub const WAYS: &[Ways] = &[
         ],
     ),
     (Rule::UnusedTag, &[unused_tag]),
+    (Rule::UnusedSupertag, &[supertag_of_a_supertag]),
+    (Rule::FlagLimit, &[subtag_flag]),
 ];
 
 fn too_many_principals(random: &mut Random, p: &mut Places) -> Option<()> {
@@ -68,7 +70,7 @@ fn public_root(random: &mut Random, p: &mut Places) -> Option<()> {
 fn rooted_at(random: &mut Random, p: &mut Places, root: Principal) -> Option<()> {
     let made = p.tags.iter_mut().take(p.tag_count);
     random.some(made)?.root = root;
-    forget(p);
+    clear(p);
     Some(())
 }
 
@@ -103,13 +105,31 @@ fn unused_tag(random: &mut Random, p: &mut Places) -> Option<()> {
     let place = random.some(unused)?;
     match random.below(3) {
         0 => place.root = random.pick(&[OFFICE, Principal(u8::MAX)]),
-        1 => place.subtag = 1,
-        _ => {
-            place.subtag = 1;
-            place.supertag = random.pick(&[Tag(1), Tag(u8::MAX)]);
-        }
+        1 => place.subtag = random.pick(&[1, 2, u8::MAX]),
+        _ => place.supertag = random.pick(&[Tag(1), Tag(u8::MAX)]),
     }
     Some(())
+}
+
+fn supertag_of_a_supertag(random: &mut Random, p: &mut Places) -> Option<()> {
+    let place = some_of_rank(random, p, 0)?;
+    place.supertag = random.pick(&[Tag(1), Tag(63), Tag(64), Tag(u8::MAX)]);
+    Some(())
+}
+
+fn subtag_flag(random: &mut Random, p: &mut Places) -> Option<()> {
+    some_of_rank(random, p, 1)?.subtag = random.pick(&[2, 128, u8::MAX]);
+    Some(())
+}
+
+/// Some made tag with this flag.
+fn some_of_rank<'a>(
+    random: &mut Random,
+    p: &'a mut Places,
+    subtag: u8,
+) -> Option<&'a mut TagPlace> {
+    let made = p.tags.iter_mut().take(p.tag_count);
+    random.some(made.filter(|place| place.subtag == subtag))
 }
 
 fn made_tags(p: &Places) -> impl Iterator<Item = Tag> {
@@ -131,6 +151,6 @@ fn put_under(p: &mut Places, t: Tag, supertag: Tag) -> Option<()> {
     let place = &mut p.tags[usize::from(t.0)];
     place.subtag = 1;
     place.supertag = supertag;
-    forget(p);
+    clear(p);
     Some(())
 }

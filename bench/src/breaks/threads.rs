@@ -13,6 +13,7 @@ pub const WAYS: &[Ways] = &[
     ),
     (Rule::UnusedThread, &[dead_with_something]),
     (Rule::UnusedPutAside, &[unused_aside]),
+    (Rule::FlagLimit, &[live_flag]),
 ];
 
 fn too_many_aside(random: &mut Random, p: &mut Places) -> Option<()> {
@@ -64,6 +65,11 @@ fn unused_aside(random: &mut Random, p: &mut Places) -> Option<()> {
     let thread = random.some(p.threads.iter_mut().filter(room))?;
     let unused = &mut thread.put_aside[thread.put_aside_count..];
     *random.some(unused)? = random.pick(&[OFFICE, Principal(u8::MAX)]);
+    Some(())
+}
+
+fn live_flag(random: &mut Random, p: &mut Places) -> Option<()> {
+    some_live(random, p)?.live = random.pick(&[2, 128, u8::MAX]);
     Some(())
 }
 

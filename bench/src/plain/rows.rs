@@ -6,6 +6,18 @@ use super::walk::Graph;
 use super::{LINKS, PRINCIPALS};
 use crate::questions::Lent;
 
+/// A link in any form: its tag, 0 for a principal link, its near end and its far end.
+pub trait Link: Copy {
+    fn parts(self) -> [u32; 3];
+}
+
+impl Link for u32 {
+    #[inline(always)]
+    fn parts(self) -> [u32; 3] {
+        [self >> 16, self >> 8 & 255, self & 255]
+    }
+}
+
 struct Empty<const MOST: usize>;
 
 impl<const MOST: usize> Empty<MOST> {
@@ -22,7 +34,7 @@ pub fn no_links<const MOST: usize>() -> [Graph; MOST] {
 /// `MOST` tags, which were empty.
 pub fn links_hold<const MOST: usize>(
     graphs: &mut [Graph; MOST],
-    list: Lent,
+    list: Lent<impl Link>,
     tags: u32,
     principals: u32,
 ) -> bool {
@@ -32,27 +44,27 @@ pub fn links_hold<const MOST: usize>(
         && sound(graphs, list.used(), tags)
 }
 
-fn in_limits(list: Lent, principals: u32) -> bool {
+fn in_limits(list: Lent<impl Link>, principals: u32) -> bool {
     list.places.len() == LINKS && list.count <= LINKS && principals as usize <= PRINCIPALS
 }
 
 /// Every end and tag is made, and no link leads to the public.
-fn all_made(links: &[u32], tags: u32, principals: u32) -> bool {
-    links.iter().fold(true, |ok, &link| {
-        let to = link & 255;
-        ok & (link >> 16 < tags) & (link >> 8 & 255 < principals) & (to < principals) & (to != 0)
+fn all_made(links: &[impl Link], tags: u32, principals: u32) -> bool {
+    links.iter().fold(true, |ok, link| {
+        let [tag, from, to] = link.parts();
+        ok & (tag < tags) & (from < principals) & (to < principals) & (to != 0)
     })
 }
 
 /// No link stands twice and none is in a cycle. Every number is made.
-fn sound<const MOST: usize>(graphs: &mut [Graph; MOST], links: &[u32], tags: u32) -> bool {
+fn sound<const MOST: usize>(graphs: &mut [Graph; MOST], links: &[impl Link], tags: u32) -> bool {
     let mut starts = [0; MOST];
     let mut single = true;
-    for &link in links {
-        let tag = (link >> 16) as usize % MOST;
-        let from = (link >> 8) as usize % PRINCIPALS;
+    for link in links {
+        let [tag, from, to] = link.parts();
+        let (tag, from) = (tag as usize % MOST, from as usize % PRINCIPALS);
         let row = &mut graphs[tag][from];
-        let far = 1 << (link & 63);
+        let far = 1 << (to & 63);
         single &= *row & far == 0;
         *row |= far;
         starts[tag] |= 1 << from;

@@ -30,9 +30,14 @@ pub struct Draft {
 
 impl Draft {
     pub fn new(seed: u64) -> Draft {
+        Draft::on(State::fresh(LINE_MEMORY), seed)
+    }
+
+    /// A list that goes on from these tables.
+    pub fn on(state: State, seed: u64) -> Draft {
         Draft {
             random: Random::new(seed),
-            state: State::fresh(LINE_MEMORY),
+            state,
             text: Vec::new(),
         }
     }
@@ -61,8 +66,13 @@ impl Draft {
         self.line(&line_of_bytes(&frame))
     }
 
-    /// Adds a frame of the kind, one that is answered as wished if it can be drawn.
     pub fn aim(&mut self, kind: u8, wished: u8) {
+        let frame = self.aimed(kind, wished);
+        self.line(&line_of_bytes(&frame));
+    }
+
+    /// A frame of the kind, one that is answered as wished if it can be drawn.
+    pub fn aimed(&mut self, kind: u8, wished: u8) -> Vec<u8> {
         let mut frame = self.frame(kind);
         for _ in 0..TRIES {
             if status(&step(&mut self.state.clone(), &frame)) == wished {
@@ -70,7 +80,7 @@ impl Draft {
             }
             frame = self.frame(kind);
         }
-        self.line(&line_of_bytes(&frame));
+        frame
     }
 
     /// The end of the last thread would make every answer after it 2. It is put

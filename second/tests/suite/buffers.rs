@@ -1,10 +1,14 @@
 //! The lent answer buffer, of which document 01 speaks at the end of section
-//! "Refusal numbers": readings G1 to G4.
+//! "Refusal numbers": readings G1 to G4. And what start and clearing do to lent places
+//! that hold anything: D12, D14.
 
 use crate::common::*;
 use second::answers::{bytes, Refusal};
-use second::entry::entry;
-use second::things::MIN_BUFFER;
+use second::authority::{Link, TagLink};
+use second::entry::{clear, entry, start};
+use second::places::{Places, MESSAGE_STORE};
+use second::state::State;
+use second::things::*;
 
 const FRAMES: [&str; 7] = [
     "00 01",
@@ -80,4 +84,58 @@ fn g4_a_frame_may_have_any_length() {
             assert_eq!(answer, Err(Refusal::Malformed), "{} {}", length, kind);
         }
     }
+}
+
+/// Places that hold something wherever they can, lists and store as long as wished.
+fn filled(links: usize, tag_links: usize, messages: usize) -> Places {
+    let link = Link {
+        from: Principal(7),
+        to: Principal(255),
+    };
+    let tag = Tag(9);
+    let mut places = Host::fresh().places;
+    places.principal_count = 1000;
+    places.principal_link_count = 3;
+    places.principal_links = vec![link; links];
+    places.tag_links = vec![TagLink { tag, link }; tag_links];
+    places.messages = vec![BEFORE; messages];
+    places.threads[15].live = 2;
+    places.memory.pairs = [(Principal(8), tag); MAX_MEMORY];
+    places.memory.held = usize::MAX;
+    places.memory.size = 99;
+    places.memory.hits = 5;
+    places
+}
+
+#[test]
+fn d14_the_start_leaves_fresh_tables_and_zeros() {
+    for (size, fresh) in [(8, 8), (64, 64), (65, 0), (usize::MAX, 0)] {
+        let mut places = filled(256, 256, MESSAGE_STORE);
+        assert_eq!(start(&mut places, size).is_ok(), size == fresh);
+        assert_eq!(places, Places::from(&State::fresh(fresh)));
+    }
+}
+
+#[test]
+fn d14_the_start_takes_lists_of_any_length() {
+    for lengths in [(0, 0, 0), (255, 257, 1), (257, 255, MESSAGE_STORE + 1)] {
+        let (links, tag_links, messages) = lengths;
+        let mut places = filled(links, tag_links, messages);
+        assert_eq!(start(&mut places, 8), Ok(()));
+        let mut fresh = Places::from(&State::fresh(8));
+        fresh.principal_links = vec![Link::default(); links];
+        fresh.tag_links = vec![TagLink::default(); tag_links];
+        fresh.messages = vec![0; messages];
+        assert_eq!(places, fresh);
+    }
+}
+
+#[test]
+fn d12_clearing_takes_any_places() {
+    let mut places = filled(255, 0, 1);
+    let mut cleared = places.clone();
+    clear(&mut cleared);
+    places.memory.held = 0;
+    places.memory.pairs = [(PUBLIC, Tag(0)); MAX_MEMORY];
+    assert_eq!(cleared, places);
 }

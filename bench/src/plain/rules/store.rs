@@ -1,18 +1,18 @@
 //! The rules of 9 on the store of messages: lengths, and zeros wherever nothing is.
 
-use super::QUEUED;
-use crate::form::{Fields, CELL, OBJECT, QUEUE};
+use super::{CELL, QUEUE, QUEUED};
+use crate::buffers::raw::ObjectRow;
 
 const MESSAGE: usize = 32;
 /// A length byte and room for the longest message.
 const PLACE: usize = 1 + MESSAGE;
-const PLACES: usize = QUEUED as usize * PLACE;
+const PLACES: usize = QUEUED * PLACE;
 
 /// Each object has 8 places, of which it uses the first ones.
-pub fn store_holds(fields: Fields, store: &[u8]) -> bool {
-    store.len() == 64 * PLACES
-        && fields
-            .objects()
+pub fn store_holds(rows: &[ObjectRow], store: &[u8]) -> bool {
+    store.len() == rows.len() * PLACES
+        && rows
+            .iter()
             .zip(store.chunks_exact(PLACES))
             .all(|(row, places)| {
                 let (used, unused) = places.split_at(messages(row) * PLACE);
@@ -20,11 +20,12 @@ pub fn store_holds(fields: Fields, store: &[u8]) -> bool {
             })
 }
 
-/// How many messages an object of at most 8 has.
-fn messages([what, ..]: &[u64; OBJECT]) -> usize {
-    match *what {
-        CELL => 1,
-        what => what.saturating_sub(QUEUE) as usize,
+/// How many messages an object has that is free or holds at most 8.
+fn messages(row: &ObjectRow) -> usize {
+    match (row.live, row.kind) {
+        (1, CELL) => 1,
+        (1, QUEUE) => row.held,
+        _ => 0,
     }
 }
 
