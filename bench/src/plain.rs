@@ -2,7 +2,7 @@
 //! functions are measured against. Walks and whole lists go by rows of 64 bits.
 
 pub mod lines;
-mod monitor;
+pub mod monitor;
 mod rows;
 #[cfg(feature = "proved")]
 pub mod rules;

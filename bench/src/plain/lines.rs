@@ -1,7 +1,7 @@
 //! The plain monitor as a line program. Document 01, section "Lines". Input and
 //! output go by blocks; of a line no more is kept than shows that it is too long.
 
-use super::monitor::{Answer, Done, Frame, Memory, Monitor, Refusal, LONGEST};
+use super::monitor::{parts, Answer, Frame, Memory, Monitor, Refusal, LONGEST};
 use std::io::{self, ErrorKind, Read, Write};
 
 /// The bytes of a block, in and out.
@@ -12,8 +12,6 @@ const MOST_DIGITS: usize = 2 * LONGEST;
 
 /// The longest line of an answer: status, length and 32 bytes in digits, and LF.
 const LONGEST_LINE: usize = 2 * 34 + 1;
-
-const DONE: u8 = 0;
 
 /// Opens the last line.
 const LAST_LINE: u8 = 0xFF;
@@ -128,15 +126,9 @@ impl Answers<'_> {
     }
 
     fn put(&mut self, answer: &Answer) -> io::Result<()> {
-        match answer {
-            Ok(Done::Nothing) => self.digits(&[DONE]),
-            Ok(Done::Number(number)) => self.digits(&[DONE, *number]),
-            Ok(Done::Message(message)) => {
-                self.digits(&[DONE]);
-                self.digits(&message[..=usize::from(message[0])]);
-            }
-            Err(refusal) => self.digits(&[*refusal as u8]),
-        }
+        let (status, rest) = parts(answer);
+        self.digits(&[status]);
+        self.digits(rest);
         self.end_line()
     }
 

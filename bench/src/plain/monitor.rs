@@ -1,13 +1,14 @@
 //! The monitor of document 01 in plain safe Rust, written for speed and from the
-//! paper: what the proved line program is measured against, and a third opinion.
-//! There is no check of 9. Tables lie in place, a request allocates nothing, and
-//! unused places are zero.
+//! paper: what the proved line program and single requests are measured against, and a
+//! third opinion. There is no check of 9. Tables lie in place, a request allocates
+//! nothing, and unused places are zero.
 
 mod authority;
 mod frame;
 mod leaves;
 mod memory;
 mod objects;
+mod tables;
 mod threads;
 
 pub use frame::{Frame, Message, LONGEST};
@@ -15,6 +16,7 @@ pub use memory::Memory;
 
 use authority::Authority;
 use objects::Objects;
+use std::slice;
 use threads::Thread;
 
 const THREADS: usize = 16;
@@ -41,6 +43,18 @@ pub enum Done {
 }
 
 pub type Answer = Result<Done, Refusal>;
+
+const DONE: u8 = 0;
+
+/// The status byte of an answer, and the bytes behind it.
+pub fn parts(answer: &Answer) -> (u8, &[u8]) {
+    match answer {
+        Ok(Done::Nothing) => (DONE, &[]),
+        Ok(Done::Number(number)) => (DONE, slice::from_ref(number)),
+        Ok(Done::Message(message)) => (DONE, &message[..=usize::from(message[0])]),
+        Err(refusal) => (*refusal as u8, &[]),
+    }
+}
 
 fn refuse(refusal: Refusal, when: bool) -> Result<(), Refusal> {
     if when {
@@ -69,6 +83,17 @@ impl Monitor {
             threads,
             objects: Objects::none(),
         }
+    }
+
+    /// A frame of any bytes. The answer is put at the front of a buffer that has room for
+    /// it; says how many bytes it has.
+    pub fn answer(&mut self, frame: &[u8], buffer: &mut [u8]) -> usize {
+        let read = Frame::read(frame).ok_or(Refusal::Malformed);
+        let answer = read.and_then(|frame| self.request(&frame));
+        let (status, rest) = parts(&answer);
+        buffer[0] = status;
+        buffer[1..][..rest.len()].copy_from_slice(rest);
+        1 + rest.len()
     }
 
     /// The order of checks: 1 and 2 here, 3 and 4 and the rest in the kind's row.

@@ -44,6 +44,13 @@ impl Frame {
         Frame { bytes, length }
     }
 
+    /// None of more bytes than a frame can have.
+    pub fn read(frame: &[u8]) -> Option<Frame> {
+        let mut bytes = [0; LONGEST];
+        bytes.get_mut(..frame.len())?.copy_from_slice(frame);
+        Some(Frame::new(bytes, frame.len()))
+    }
+
     /// Not 1: "frame under 2 bytes, unknown kind, wrong length, message over 32, object
     /// kind over 2".
     pub fn well_formed(&self) -> bool {

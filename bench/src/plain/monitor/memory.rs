@@ -1,13 +1,18 @@
 //! The remembered answers. Document 01, section of that name; M = 8, the line
 //! program's.
 
-const SIZE: usize = 8;
+pub const SIZE: usize = 8;
+
+/// A pair (P, T) is P * 256 + T.
+pub fn pair(p: u8, t: u8) -> u16 {
+    u16::from(p) << 8 | u16::from(t)
+}
 
 #[derive(Default)]
 pub struct Memory {
-    /// A pair (P, T) is P * 256 + T. The latest is first.
-    pairs: [u16; SIZE],
-    held: usize,
+    /// The latest is first.
+    pub pairs: [u16; SIZE],
+    pub held: usize,
     pub questions: u32,
     pub hits: u32,
 }
@@ -16,7 +21,7 @@ impl Memory {
     /// One question: "If the pair is held it is a hit, and the yes is the memory's,
     /// with no walk; otherwise the walk answers."
     pub fn ask(&mut self, p: u8, t: u8, walk: impl FnOnce() -> bool) -> bool {
-        let pair = u16::from(p) << 8 | u16::from(t);
+        let pair = pair(p, t);
         self.questions = self.questions.saturating_add(1);
         let mut held = self.pairs[..self.held].iter();
         match held.position(|there| *there == pair) {

@@ -13,19 +13,19 @@ const QUEUE: u8 = 1;
 const LOCK: u8 = 2;
 
 #[derive(Clone, Copy, Default)]
-struct Object {
-    kind: u8,
+pub struct Object {
+    pub kind: u8,
     /// How many messages a queue holds; 1 for a lock that is held.
-    held: u8,
-    secrecy: u64,
-    integrity: u64,
+    pub held: u8,
+    pub secrecy: u64,
+    pub integrity: u64,
 }
 
 pub struct Objects {
-    live: u64,
-    rows: [Object; OBJECTS],
+    pub live: u64,
+    pub rows: [Object; OBJECTS],
     /// A cell's is the first of its eight, and so is the first of a queue.
-    messages: [[Message; QUEUED]; OBJECTS],
+    pub messages: [[Message; QUEUED]; OBJECTS],
 }
 
 impl Objects {

@@ -11,8 +11,8 @@ pub struct Thread {
     pub live: bool,
     pub principal: u8,
     /// How many are put aside, and who; the last one last.
-    calls: u8,
-    aside: [u8; PUT_ASIDE],
+    pub calls: u8,
+    pub aside: [u8; PUT_ASIDE],
     pub secrecy: u64,
     pub integrity: u64,
 }
