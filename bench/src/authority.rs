@@ -2,28 +2,22 @@
 //! same tables, the same questions. An answer that is not the second program's ends
 //! the run, before any time of that system counts.
 
-mod case;
+pub mod case;
 mod others;
 mod rounds;
 mod systems;
 
-use crate::rounds::ROUNDS;
-use bench::report::{Report, Row, Section};
+use crate::benchmark::Program;
+use bench::report::{Report, Row, Section, Told};
 use case::{Case, SIZES};
 use rounds::Rounds;
 use std::fs;
 use std::io;
-use std::path::{Path, PathBuf};
+use std::path::Path;
 use systems::{notes, Way, PLAIN, PROVED, SYSTEMS};
 
 /// How often each takes its rounds, so that what else the machine does meets all alike.
 const TURNS: usize = 5;
-
-/// The program that asks a system.
-pub struct Program {
-    pub system: String,
-    pub path: PathBuf,
-}
 
 /// Whether there is a system of that name.
 pub fn is_system(name: &str) -> bool {
@@ -44,7 +38,7 @@ pub fn measure(work: &Path, programs: &[Program]) -> io::Result<Report> {
         report.sections.push(section(&case, &rounds));
         report.facts = rounds.versions();
     }
-    report.notes = notes(TURNS * ROUNDS);
+    report.notes = notes(TURNS);
     Ok(report)
 }
 
@@ -56,6 +50,7 @@ fn section(case: &Case, rounds: &Rounds) -> Section {
             principals, links
         ),
         each: "question",
+        told: Told::Nanoseconds,
         beside: "the proved walk",
         about: format!(
             "{} principals beside the public, {} principal links, and {} tag links over {} tags, \
@@ -68,19 +63,21 @@ fn section(case: &Case, rounds: &Rounds) -> Section {
             case.questions.len(),
             case.yes()
         ),
-        rows: rows(rounds).unwrap_or_default(),
+        rows: rows(rounds),
     }
 }
 
-/// A way without rounds was left out. Without the proved walk there is nothing to say.
-fn rows(rounds: &Rounds) -> Option<Vec<Row>> {
-    let proved = rounds.time(PROVED)?;
-    let row = |way: &Way| match rounds.time(way.title) {
-        Some(time) => Row::beside(proved, way.title, time, way.goal),
-        None => Row::left_out(way.title, "it is not on this machine", way.goal),
+/// A way without rounds was left out.
+fn rows(rounds: &Rounds) -> Vec<Row> {
+    let none = || "it is not on this machine".to_string();
+    let time = |title| rounds.time(title).ok_or_else(none);
+    let proved = time(PROVED);
+    let row = |way: &Way| {
+        let row = Row::new(way.title, time(way.title));
+        row.beside(&proved).with_goal(way.goal)
     };
     let others = SYSTEMS.iter().flat_map(|system| system.ways);
-    let mut rows = vec![Row::proved(PROVED, proved), row(&PLAIN)];
+    let mut rows = vec![Row::new(PROVED, proved.clone()).proved(), row(&PLAIN)];
     rows.extend(others.map(row));
-    Some(rows)
+    rows
 }

@@ -12,17 +12,22 @@ mod damage;
 mod frames;
 mod fuzz;
 mod graphs;
+mod line_lists;
 mod list_damage;
+mod passes;
 mod proved;
 mod random;
 mod reference;
+mod remembered;
+mod requests;
 mod rounds;
 mod sound;
 mod statuses;
 mod time;
+mod whole_check;
 
-use authority::Program;
 use bench::{buffers, plain, questions};
+use benchmark::Program;
 use cases::{Length, Run};
 use second::command::{clock, number, run, wrong, Failure};
 use std::io::{self, Write};
@@ -43,13 +48,15 @@ bench boundary N [SEED]
 bench fuzz SECONDS [SEED]
                        the same on long lists of requests, with the tables changed in
                        between, until so many seconds have passed; 0 for one list
-bench time             measure the proved functions and plain Rust, and print a
-                       table of nanoseconds, ratios and goals
-bench report WORK DOCS [SYSTEM=PROGRAM]..
-                       measure the proved code beside other systems, and write
-                       DOCS/benchmark.md and DOCS/benchmark.svg; WORK is a directory
-                       with a file `facts`, a line for each thing to be said of the
-                       run; SYSTEM is sqlite, prolog or casbin (bench/run does it all)
+bench time             measure the proved functions on links and plain Rust at
+                       their worst, and print a table of nanoseconds, ratios and
+                       goals
+bench report WORK DOCS [NAME=PROGRAM]..
+                       measure the proved code beside plain Rust and other systems,
+                       and write DOCS/benchmark.md and DOCS/benchmark.svg; WORK is a
+                       directory with a file `facts`, a line for each thing to be
+                       said of the run; NAME is sqlite, prolog or casbin, or of a line
+                       program suvdorkhun, lines or second (bench/run does it all)
 bench --help           print this
 
 N is at least 1. SEED is a number from 0 to 18446744073709551615; where it is left
@@ -67,7 +74,7 @@ fn command(arguments: &[&str]) -> Result<(), Failure> {
         ["boundary", how_many @ ..] => compare("boundary", boundary::boundary, cases(how_many)?),
         ["fuzz", how_long @ ..] => compare("fuzz", fuzz::fuzz, seconds(how_long)?),
         ["report", work, docs, programs @ ..] => report(work, docs, programs),
-        ["report", ..] => Err(wrong("report wants: WORK DOCS [SYSTEM=PROGRAM]..")),
+        ["report", ..] => Err(wrong("report wants: WORK DOCS [NAME=PROGRAM]..")),
         ["time"] => Ok(time::time(&mut io::stdout())?),
         ["time", ..] => Err(wrong("time takes no arguments")),
         ["--help"] | ["-h"] | ["help"] => Ok(io::stdout().write_all(HELP.as_bytes())?),
@@ -77,12 +84,10 @@ fn command(arguments: &[&str]) -> Result<(), Failure> {
 }
 
 fn report(work: &str, docs: &str, words: &[&str]) -> Result<(), Failure> {
-    let program = |word: &&str| match word.split_once('=') {
-        Some((system, path)) if authority::is_system(system) => Ok(Program {
-            system: system.to_string(),
-            path: path.into(),
-        }),
-        _ => Err(wrong(format!("there is no system in {}", word))),
+    let program = |word: &&str| {
+        let named = word.split_once('=');
+        let program = named.and_then(|(name, path)| Program::new(name, path));
+        program.ok_or_else(|| wrong(format!("no measure wants {}", word)))
     };
     let programs: Vec<Program> = words.iter().map(program).collect::<Result<_, _>>()?;
     let (work, docs) = (Path::new(work), Path::new(docs));

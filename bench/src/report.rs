@@ -28,53 +28,64 @@ pub struct Section {
     pub title: String,
     /// Of what a row has the time: "question", "request", "line".
     pub each: &'static str,
+    pub told: Told,
     /// To what the ratios are.
     pub beside: &'static str,
     pub about: String,
     pub rows: Vec<Row>,
 }
 
+/// How the table tells the times of a section; the picture tells them for one piece.
+#[derive(Clone, Copy)]
+pub enum Told {
+    Nanoseconds,
+    /// Seconds for so many pieces, and pieces a second.
+    SecondsFor(usize),
+}
+
+/// The time, or why there is none.
+pub type Measured = Result<Time, String>;
+
+#[derive(Clone)]
 pub struct Row {
     pub name: String,
     /// Whether it is the proved code, which the picture sets off.
     pub proved: bool,
-    /// The time, or why there is none.
-    pub time: Result<Time, String>,
+    pub time: Measured,
     /// How many times as long as what the section puts it beside.
     pub ratio: Option<f64>,
     pub goal: Option<Goal>,
 }
 
 impl Row {
-    pub fn proved(name: &str, time: Time) -> Row {
+    pub fn new(name: &str, time: Measured) -> Row {
         Row {
             name: name.to_string(),
-            proved: true,
-            time: Ok(time),
+            proved: false,
+            time,
             ratio: None,
             goal: None,
         }
     }
 
-    /// A row with the ratio of its median to another one.
-    pub fn beside(other: Time, name: &str, time: Time, goal: Option<Goal>) -> Row {
+    pub fn proved(self) -> Row {
         Row {
-            name: name.to_string(),
-            proved: false,
-            time: Ok(time),
-            ratio: Some(time.median / other.median),
-            goal,
+            proved: true,
+            ..self
         }
     }
 
-    pub fn left_out(name: &str, why: &str, goal: Option<Goal>) -> Row {
-        Row {
-            name: name.to_string(),
-            proved: false,
-            time: Err(why.to_string()),
-            ratio: None,
-            goal,
-        }
+    /// With the ratio of its median to another one, where there are both.
+    pub fn beside(self, other: &Measured) -> Row {
+        let ratio = match (&self.time, other) {
+            (Ok(time), Ok(other)) => Some(time.median / other.median),
+            _ => None,
+        };
+        Row { ratio, ..self }
+    }
+
+    pub fn with_goal(self, goal: Option<Goal>) -> Row {
+        Row { goal, ..self }
     }
 
     /// Whether the goal is met, if there are a goal and a ratio.
@@ -87,11 +98,12 @@ impl Row {
     }
 }
 
-/// Nanoseconds, from several rounds.
+/// Nanoseconds a piece, from several rounds.
 #[derive(Clone, Copy, Debug, PartialEq)]
 pub struct Time {
     pub median: f64,
-    pub best: f64,
+    /// The best round. What is left of a time has none.
+    pub best: Option<f64>,
 }
 
 impl Time {
@@ -100,8 +112,17 @@ impl Time {
         rounds.sort_by(f64::total_cmp);
         Some(Time {
             median: *rounds.get(rounds.len() / 2)?,
-            best: *rounds.first()?,
+            best: rounds.first().copied(),
         })
+    }
+
+    /// What is left when a part is taken off, round by round. None where that is nothing:
+    /// it is lost in how the times spread.
+    pub fn less(whole: &[f64], part: &[f64]) -> Option<Time> {
+        let left = whole.iter().zip(part).map(|(whole, part)| whole - part);
+        let median = Time::of(left.collect())?.median;
+        let best = None;
+        (median > 0.0).then_some(Time { median, best })
     }
 }
 

@@ -121,7 +121,7 @@ fn label(random: &mut Random, sizes: Sizes) -> Label {
     Label::from_bits(random.pick(&[0, 0, any, u64::MAX]) & made)
 }
 
-fn object(random: &mut Random, sizes: Sizes) -> ObjectRow {
+pub fn object(random: &mut Random, sizes: Sizes) -> ObjectRow {
     let contents = match random.below(3) {
         0 => Contents::Cell(message(random)),
         1 => {

@@ -1,18 +1,13 @@
-//! The benchmark: nanoseconds a question, proved and plain Rust, in one run and by
-//! turns, the best of many batches. The tables are warm in the cache; the rows of
-//! bits are cleared by the functions themselves, and that is counted.
+//! The functions on links at their worst: nanoseconds a question, proved and plain Rust,
+//! in one run and by turns, the best of many batches. The tables are warm in the cache;
+//! the rows of bits are cleared by the functions themselves, and that is counted.
 
 mod batches;
 
-use crate::buffers::Buffers;
 use crate::graphs::{any_order, graph, list, shared_out, zigzag_order, Shape};
 use crate::questions::{Question, Rooted, Tables};
 use crate::random::Random;
-use crate::sound::{sound, Sizes, FULL, NEARLY_EMPTY};
 use batches::{improve, start, Measured};
-use second::authority::Authority;
-use second::state::State;
-use second::things::LINE_MEMORY;
 use std::io::{self, Write};
 use std::time::Duration;
 
@@ -20,21 +15,16 @@ const SEED: u64 = 1;
 const BATCHES: u32 = 40;
 
 /// A walk takes at most so many times as long as in plain Rust; so does a test of a
-/// whole list or of whole tables.
+/// whole list.
 const WALK_GOAL: f64 = 1.5;
-const WHOLE_GOAL: f64 = 3.0;
+const LIST_GOAL: f64 = 3.0;
 
 struct Case {
     name: &'static str,
-    asked: Asked,
+    tables: Tables,
+    question: Question,
     answer: bool,
     goal: f64,
-}
-
-enum Asked {
-    OfLinks(Tables, Question),
-    /// Whether whole tables break no rule.
-    OfAll(Box<Buffers>),
 }
 
 pub fn time(output: &mut dyn Write) -> io::Result<()> {
@@ -80,17 +70,8 @@ fn cases(random: &mut Random) -> Vec<Case> {
         tag_list(random, "tag list, 256 links over 1 tag", 1, 256),
         tag_list(random, "tag list, 20 links over 4 tags", 4, 20),
         tag_list(random, "tag list, 0 links, 64 tags", 64, 0),
-        whole_tables("rules of 9, full tables, 8 pairs", &of(random, EIGHT_PAIRS)),
-        whole_tables("rules of 9, full tables, 64 pairs", &of(random, FULL)),
-        whole_tables(
-            "rules of 9, 3 principals, 2 + 1 links, 1 tag, 2 objects, 1 pair",
-            &of(random, NEARLY_EMPTY),
-        ),
-        whole_tables("rules of 9, fresh tables", &State::fresh(LINE_MEMORY)),
     ]
 }
-
-const EIGHT_PAIRS: Sizes = Sizes { pairs: 8, ..FULL };
 
 /// The worst case: the walk meets every principal and every link, and says no.
 fn acts_for(random: &mut Random, name: &'static str, principals: u32, links: usize) -> Case {
@@ -108,7 +89,8 @@ fn authoritative(random: &mut Random, name: &'static str, principals: u32, links
 fn walk(name: &'static str, tables: Tables, question: Question) -> Case {
     Case {
         name,
-        asked: Asked::OfLinks(tables, question),
+        tables,
+        question,
         answer: false,
         goal: WALK_GOAL,
     }
@@ -145,37 +127,13 @@ fn tag_list(random: &mut Random, name: &'static str, tags: u32, links: usize) ->
 }
 
 fn whole_list(name: &'static str, tables: Tables, question: Question) -> Case {
-    whole(name, Asked::OfLinks(tables, question))
-}
-
-fn whole_tables(name: &'static str, state: &State) -> Case {
-    whole(name, Asked::OfAll(Box::new(Buffers::from(state))))
-}
-
-fn whole(name: &'static str, asked: Asked) -> Case {
     Case {
         name,
-        asked,
+        tables,
+        question,
         answer: true,
-        goal: WHOLE_GOAL,
+        goal: LIST_GOAL,
     }
-}
-
-/// Sound tables of just these sizes.
-fn of(random: &mut Random, sizes: Sizes) -> State {
-    let state = sound(random, sizes);
-    let Authority {
-        principal_links,
-        tag_links,
-        ..
-    } = &state.authority;
-    let there = [
-        principal_links.len(),
-        tag_links.len(),
-        state.memory.pairs.len(),
-    ];
-    assert_eq!(there, [sizes.links, sizes.tag_links, sizes.pairs]);
-    state
 }
 
 fn tables(random: &mut Random, links: Vec<u32>, tag_links: Vec<u32>, tags: u32) -> Tables {

@@ -6,6 +6,9 @@ use crate::graphs::{any_order, graph, list, parts, shared_out, Shape};
 use crate::questions::{List, Question, Rooted, Tables};
 use crate::random::Random;
 use crate::reference;
+use crate::sound::tag_link;
+use second::authority::{self, Authority};
+use second::things::{Principal, Tag};
 
 const SEED: u64 = 1;
 
@@ -78,6 +81,21 @@ impl Case {
         self.answers.iter().filter(|yes| **yes).count()
     }
 
+    /// The tables as the second program has them.
+    pub fn authority(&self) -> Authority {
+        let links = |list: &List| list.lent().used().to_vec().into_iter().map(tag_link);
+        let tag = |row: &TagRow| authority::TagRow {
+            root: Principal(row.own.root),
+            supertag: row.above.map(|above| Tag(above.tag)),
+        };
+        Authority {
+            principals: self.tables.principals as usize,
+            principal_links: links(&self.tables.links).map(|l| l.link).collect(),
+            tags: self.tags.iter().map(tag).collect(),
+            tag_links: links(&self.tables.tag_links).collect(),
+        }
+    }
+
     /// The tables and the questions, a line each.
     pub fn text(&self) -> String {
         let tags = self.tags.iter().map(tag_line);
@@ -121,7 +139,7 @@ fn questions(tags: &[TagRow], end: u32) -> Vec<Question> {
 }
 
 /// The tag and the principal of a question about authority.
-fn asked(question: Question) -> Option<(u8, u8)> {
+pub fn asked(question: Question) -> Option<(u8, u8)> {
     match question {
         Question::Authoritative { own, p } | Question::AuthoritativeSub { own, p, .. } => {
             Some((own.tag, p))

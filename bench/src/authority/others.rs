@@ -1,7 +1,7 @@
 //! The programs that put the questions of a case to other systems: they are run, and
 //! what they print is read. others/README.md says what that is.
 
-use crate::rounds::{LEAST, ROUNDS};
+use crate::rounds::{failed, A_TURN};
 use std::collections::BTreeMap;
 use std::io;
 use std::path::Path;
@@ -101,8 +101,8 @@ pub fn run(program: &Path, file: &Path) -> io::Result<Told> {
     let name = program.display();
     let output = Command::new(program)
         .arg(file)
-        .arg(ROUNDS.to_string())
-        .arg(LEAST.as_millis().to_string())
+        .arg(A_TURN.rounds.to_string())
+        .arg(A_TURN.least.as_millis().to_string())
         .stderr(Stdio::inherit())
         .output()
         .map_err(|error| failed(format!("cannot run {}: {}", name, error)))?;
@@ -111,10 +111,6 @@ pub fn run(program: &Path, file: &Path) -> io::Result<Told> {
     }
     let text = String::from_utf8_lossy(&output.stdout);
     Told::read(&text).ok_or_else(|| failed(format!("{} prints what cannot be read", name)))
-}
-
-pub fn failed(words: String) -> io::Error {
-    io::Error::new(io::ErrorKind::Other, words)
 }
 
 #[cfg(test)]

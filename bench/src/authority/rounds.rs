@@ -2,13 +2,13 @@
 //! are held to the second program's before the rounds of that turn are taken.
 
 use super::case::Case;
-use super::others::{self, failed, Told};
+use super::others::{self, Told};
 use super::systems::{System, PLAIN, PROVED, SYSTEMS};
-use super::Program;
+use crate::benchmark::Program;
 use crate::plain::PlainRust;
 use crate::proved::Proved;
 use crate::questions::{answer, Functions};
-use crate::rounds::{by_turns, hidden, Work};
+use crate::rounds::{by_turns, failed, hidden, steady, Work, A_TURN};
 use bench::report::Time;
 use std::collections::{BTreeMap, BTreeSet};
 use std::io;
@@ -35,7 +35,7 @@ impl Rounds {
         self.ours(case)?;
         for system in &SYSTEMS {
             let mut programs = programs.iter();
-            if let Some(program) = programs.find(|program| program.system == system.name) {
+            if let Some(program) = programs.find(|program| program.name == system.name) {
                 let told = others::run(&program.path, file)?;
                 self.theirs(case, system, &told)?;
                 self.versions.insert(told.version);
@@ -49,19 +49,19 @@ impl Rounds {
         hold(case, PROVED, &answers(&Proved, case))?;
         hold(case, PLAIN.title, &answers(&PlainRust, case))?;
         let (pieces, yes) = (case.questions.len(), case.yes());
-        let (mut proved_steady, mut plain_steady) = (true, true);
-        let [proved, plain] = by_turns([
+        let works = [
             Work {
+                title: PROVED,
                 pieces,
-                all: &mut || proved_steady &= count(&Proved, case) == yes,
+                all: &mut || count(&Proved, case) == yes,
             },
             Work {
+                title: PLAIN.title,
                 pieces,
-                all: &mut || plain_steady &= count(&PlainRust, case) == yes,
+                all: &mut || count(&PlainRust, case) == yes,
             },
-        ]);
-        steady(PROVED, proved_steady)?;
-        steady(PLAIN.title, plain_steady)?;
+        ];
+        let [proved, plain] = by_turns(works, A_TURN)?;
         self.add(PROVED, proved);
         self.add(PLAIN.title, plain);
         Ok(())
@@ -107,13 +107,4 @@ fn hold(case: &Case, title: &str, answers: &[bool]) -> io::Result<()> {
     };
     let words = "does not answer as the second program does";
     Err(failed(format!("{}: it {}\n{}", title, words, difference)))
-}
-
-/// The yeses were as many in each round.
-fn steady(title: &str, steady: bool) -> io::Result<()> {
-    if steady {
-        return Ok(());
-    }
-    let words = "it answers otherwise while it is measured";
-    Err(failed(format!("{}: {}", title, words)))
 }

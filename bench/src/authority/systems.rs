@@ -1,7 +1,7 @@
 //! The other systems and the ways in which they are asked, with goals for the ratio to
 //! the proved walk, and what the report says of all that is measured.
 
-use crate::rounds::{LEAST, ROUNDS};
+use crate::rounds::A_TURN;
 use bench::report::Goal;
 
 /// A system is named as in the arguments of `bench report`.
@@ -48,17 +48,17 @@ const fn way(key: &'static str, title: &'static str, goal: Option<Goal>) -> Way 
     Way { key, title, goal }
 }
 
-/// So many rounds for each way.
-pub fn notes(rounds: usize) -> Vec<String> {
+/// So many turns for each way.
+pub fn notes(turns: usize) -> Vec<String> {
     let times = format!(
         "**Its times.** Nanoseconds a question inside one process, its start and the loading of \
          tables not counted: the median and the best of {} rounds of at least {} ms, {} at a turn, \
          each system in turn. The ratio is that of the medians; where they lie far above the best, \
          the machine was busy. Plain Rust has a goal of 0.67: then the proved walk takes at most \
          1.5 times as long.",
-        rounds,
-        LEAST.as_millis(),
-        ROUNDS
+        turns * A_TURN.rounds,
+        A_TURN.least.as_millis(),
+        A_TURN.rounds
     );
     let mut notes = vec![QUESTION.to_string(), times];
     notes.extend(ANSWERED.map(String::from));

@@ -1,6 +1,6 @@
 //! A report as Markdown: the facts, a table a section, and what was measured.
 
-use super::{ratio, thousands, Report, Row, Section, Time};
+use super::{ratio, thousands, Measured, Report, Row, Section, Told};
 
 /// `picture` is the file that stands beside it.
 pub fn markdown(report: &Report, picture: &str) -> String {
@@ -22,20 +22,58 @@ fn bullets(lines: &[String]) -> String {
 }
 
 fn table(section: &Section) -> String {
-    let Section { each, beside, .. } = section;
     let mut text = format!("\n## {}\n\n{}\n\n", section.title, section.about);
+    let heads = heads(section);
     text.push_str(&format!(
-        "| | ns a {}, median | best | ratio to {} | goal | met |\n",
-        each, beside
+        "| | {} | ratio to {} | goal | met |\n",
+        heads.join(" | "),
+        section.beside
     ));
-    text.push_str("|---|--:|--:|--:|--:|---|\n");
-    let rows = section.rows.iter().map(row);
+    text.push_str(&format!(
+        "|---|{}--:|--:|---|\n",
+        "--:|".repeat(heads.len())
+    ));
+    let rows = section.rows.iter().map(|row| {
+        let mut times = times(section.told, &row.time);
+        times.resize(heads.len(), String::new());
+        line(row, &times)
+    });
     text.extend(rows);
     text
 }
 
-fn row(row: &Row) -> String {
-    let (median, best) = times(&row.time);
+/// What stands above the times.
+fn heads(section: &Section) -> Vec<String> {
+    let each = section.each;
+    let best = "best".to_string();
+    match section.told {
+        Told::Nanoseconds => vec![format!("ns a {}, median", each), best],
+        Told::SecondsFor(pieces) => vec![
+            format!("s for {} {}s, median", thousands(pieces as f64), each),
+            best,
+            format!("{}s a second", each),
+        ],
+    }
+}
+
+/// A cell for each head, or why there is no time.
+fn times(told: Told, time: &Measured) -> Vec<String> {
+    let time = match time {
+        Ok(time) => time,
+        Err(why) => return vec![format!("not measured: {}", cell(why))],
+    };
+    let best = |tell: &dyn Fn(f64) -> String| time.best.map_or(String::new(), tell);
+    match told {
+        Told::Nanoseconds => vec![nanoseconds(time.median), best(&nanoseconds)],
+        Told::SecondsFor(pieces) => {
+            let seconds = |each: f64| format!("{:.3}", each * pieces as f64 / SECOND);
+            let speed = thousands(SECOND / time.median);
+            vec![seconds(time.median), best(&seconds), speed]
+        }
+    }
+}
+
+fn line(row: &Row, times: &[String]) -> String {
     let beside = row.ratio.map_or(String::new(), ratio);
     let goal = row.goal.map_or(String::new(), |goal| {
         format!("{} {}", goal.words(), ratio(goal.bound()))
@@ -45,19 +83,18 @@ fn row(row: &Row) -> String {
         Some(false) => "no",
         None => "",
     };
-    let name = cell(&row.name);
     format!(
-        "| {} | {} | {} | {} | {} | {} |\n",
-        name, median, best, beside, goal, met
+        "| {} | {} | {} | {} | {} |\n",
+        cell(&row.name),
+        times.join(" | "),
+        beside,
+        goal,
+        met
     )
 }
 
-fn times(time: &Result<Time, String>) -> (String, String) {
-    match time {
-        Ok(time) => (nanoseconds(time.median), nanoseconds(time.best)),
-        Err(why) => (format!("not measured: {}", cell(why)), String::new()),
-    }
-}
+/// In nanoseconds.
+const SECOND: f64 = 1e9;
 
 /// One place after the point below 1,000.
 fn nanoseconds(value: f64) -> String {

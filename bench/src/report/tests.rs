@@ -1,9 +1,9 @@
-//! The writers on a small report, in which a goal is met, one is not, and one system
-//! is left out.
+//! The writers on a small report: a goal is met, one is not, one system is left out, and
+//! one section is told in seconds.
 
 use super::markdown::markdown;
 use super::picture::picture;
-use super::{ratio, thousands, Goal, Report, Row, Section, Time};
+use super::{ratio, thousands, Goal, Report, Row, Section, Time, Told};
 
 const TABLE: &str = "\
 # Benchmark
@@ -21,39 +21,74 @@ About it.
 |---|--:|--:|--:|--:|---|
 | ours | 80.0 | 75.5 |  |  |  |
 | slow | 4,000 | 3,900 | 50.0 | at least 20.0 | yes |
-| near | 160.0 | 150.0 | 2.00 | at most 1.50 | no |
+| near | 160.0 |  | 2.00 | at most 1.50 | no |
 | gone \\| away | not measured: none here |  |  | at least 20.0 |  |
+
+## Lists
+
+In seconds.
+
+| | s for 2,000 lines, median | best | lines a second | ratio to slow | goal | met |
+|---|--:|--:|--:|--:|--:|---|
+| slow | 4.000 | 3.000 | 500 |  |  |  |
+| gone | not measured: none here |  |  |  |  |  |
 
 ## What is measured
 
 - Things.
 ";
 
-fn report() -> Report {
-    let time = |median, best| Time { median, best };
-    let ours = time(80.0, 75.5);
+fn time(median: f64, best: f64) -> Time {
+    let best = Some(best);
+    Time { median, best }
+}
+
+fn questions() -> Section {
+    let ours = Ok(time(80.0, 75.5));
     let twenty = Some(Goal::AtLeast(20.0));
-    let section = Section {
+    let slow = Row::new("slow", Ok(time(4000.0, 3900.0)));
+    let near = Row::new("near", Ok(Time::less(&[200.0], &[40.0]).expect("more")));
+    let gone = Row::new("gone | away", Err("none here".to_string()));
+    Section {
         title: "Size <2>".to_string(),
         each: "question",
+        told: Told::Nanoseconds,
         beside: "ours",
         about: "About it.".to_string(),
         rows: vec![
-            Row::proved("ours", ours),
-            Row::beside(ours, "slow", time(4000.0, 3900.0), twenty),
-            Row::beside(ours, "near", time(160.0, 150.0), Some(Goal::AtMost(1.5))),
-            Row::left_out("gone | away", "none here", twenty),
+            Row::new("ours", ours.clone()).proved(),
+            slow.beside(&ours).with_goal(twenty),
+            near.beside(&ours).with_goal(Some(Goal::AtMost(1.5))),
+            gone.beside(&ours).with_goal(twenty),
         ],
-    };
+    }
+}
+
+fn lists() -> Section {
+    Section {
+        title: "Lists".to_string(),
+        each: "line",
+        told: Told::SecondsFor(2000),
+        beside: "slow",
+        about: "In seconds.".to_string(),
+        rows: vec![
+            Row::new("slow", Ok(time(2e6, 1.5e6))),
+            Row::new("gone", Err("none here".to_string())),
+        ],
+    }
+}
+
+fn report() -> Report {
     let mut report = Report {
         facts: vec!["command: x".to_string()],
         ..Report::default()
     };
     report.add(Report {
         facts: vec!["A & B 1.0".to_string()],
-        sections: vec![section],
+        sections: vec![questions()],
         notes: vec!["Things.".to_string()],
     });
+    report.sections.push(lists());
     report
 }
 
@@ -99,10 +134,21 @@ fn an_empty_report_is_written_too() {
 
 #[test]
 fn rounds_have_a_middle_and_a_best() {
-    let time = |median, best| Some(Time { median, best });
-    assert_eq!(Time::of(vec![3.0, 1.0, 2.0]), time(2.0, 1.0));
-    assert_eq!(Time::of(vec![4.0, 1.0, 2.0, 3.0]), time(3.0, 1.0));
+    assert_eq!(Time::of(vec![3.0, 1.0, 2.0]), Some(time(2.0, 1.0)));
+    assert_eq!(Time::of(vec![4.0, 1.0, 2.0, 3.0]), Some(time(3.0, 1.0)));
     assert_eq!(Time::of(Vec::new()), None);
+}
+
+#[test]
+fn a_part_is_taken_off_round_by_round() {
+    let whole = [12.0, 31.0, 14.0];
+    let left = Time {
+        median: 3.0,
+        best: None,
+    };
+    assert_eq!(Time::less(&whole, &[10.0, 28.0, 9.0]), Some(left));
+    assert_eq!(Time::less(&whole, &[13.0, 32.0, 9.0]), None);
+    assert_eq!(Time::less(&[], &[]), None);
 }
 
 #[test]

@@ -1,9 +1,7 @@
 //! The commands that need no proved function: the plain monitor as a line program,
 //! and the time that line programs take for one long list.
 
-mod list;
-mod turns;
-
+use bench::line_programs::{by_turns, long, Found, Long, Program, LINES, SEED};
 use bench::plain;
 use second::command::{number, run, wrong, Failure};
 use std::io::{self, Write};
@@ -24,9 +22,6 @@ lines --help           print this
 Making a million lines takes about half a minute. Exit status: 0 if all went well,
 1 if the answers differ or something failed, 2 for wrong arguments.
 ";
-
-const LINES: usize = 1_000_000;
-const SEED: u64 = 1;
 
 fn main() -> ExitCode {
     run("lines", command)
@@ -55,16 +50,52 @@ fn time(arguments: &[&str]) -> Result<(), Failure> {
         [lines, seed] => (number(lines, "N")?, number(seed, "SEED")?),
         _ => return Err(wrong("time wants: [N [SEED]] -- PROGRAM [ARGUMENT..]")),
     };
-    let programs: Vec<&[&str]> = parts.collect();
+    let words = |part: &[&str]| part.iter().map(|word| word.to_string()).collect();
+    let programs: Vec<Program> = parts.map(words).collect();
     if lines == 0 {
         return Err(wrong("N is at least 1"));
     }
     if programs.is_empty() || programs.iter().any(|words| words.is_empty()) {
         return Err(wrong("time wants a program after each --"));
     }
-    if turns::time(&list::long(lines, seed), &programs, &mut io::stdout())? {
-        Ok(())
-    } else {
-        Err(Failure::Difference)
+    let long = long(lines, seed);
+    let output = &mut io::stdout();
+    match by_turns(&long, &programs)? {
+        Ok(found) => Ok(tell(&long, &programs, &found, output)?),
+        Err(difference) => {
+            writeln!(output, "{}", difference)?;
+            Err(Failure::Difference)
+        }
     }
+}
+
+/// What was measured, and the times.
+fn tell(
+    long: &Long,
+    programs: &[Program],
+    found: &Found,
+    output: &mut dyn Write,
+) -> io::Result<()> {
+    writeln!(output, "{}", long)?;
+    writeln!(output, "answers: {}\n", long.shares(&found.answers))?;
+    writeln!(
+        output,
+        "| program | best s | median s | lines a second | ratio |"
+    )?;
+    writeln!(output, "|---|--:|--:|--:|--:|")?;
+    let mut first = None;
+    for (program, time) in programs.iter().zip(&found.times) {
+        let seconds = |each: f64| each * long.lines as f64 / 1e9;
+        let median = seconds(time.median);
+        let best = time.best.map_or(median, seconds);
+        let ratio = median / *first.get_or_insert(median);
+        let speed = long.lines as f64 / median;
+        let name = program.join(" ");
+        writeln!(
+            output,
+            "| {} | {:.4} | {:.4} | {:.0} | {:.2} |",
+            name, best, median, speed, ratio
+        )?;
+    }
+    writeln!(output, "\nall outputs are equal, byte for byte")
 }

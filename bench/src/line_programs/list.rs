@@ -7,6 +7,11 @@
 use second::coverage::lines_of;
 use second::generate::{generate, nth};
 use second::lines::LINE_FEED;
+use std::fmt;
+
+/// How many lines are measured, and the seed of the first list.
+pub const LINES: usize = 1_000_000;
+pub const SEED: u64 = 1;
 
 /// How the lines begin that are left out: thread 0 takes a tag into S, ends, calls.
 const LEFT_OUT: [&[u8]; 3] = [b"000A", b"000F", b"0010"];
@@ -17,6 +22,37 @@ pub struct Long {
     /// How many lists it is made of, and the seed of the first.
     pub lists: u64,
     pub seed: u64,
+}
+
+impl fmt::Display for Long {
+    fn fmt(&self, f: &mut fmt::Formatter) -> fmt::Result {
+        let (lines, bytes) = (self.lines, self.text.len());
+        let last = self.seed.wrapping_add(self.lists - 1);
+        write!(
+            f,
+            "{} lines, {} bytes, of {} lists, ",
+            lines, bytes, self.lists
+        )?;
+        write!(f, "seeds {} to {}", self.seed, last)
+    }
+}
+
+impl Long {
+    /// In words, how often each status was answered.
+    pub fn shares(&self, answers: &[u8]) -> String {
+        let mut counts = [0; 256];
+        for line in answers.split(|byte| *byte == LINE_FEED).take(self.lines) {
+            let status = line.get(..2).and_then(|two| std::str::from_utf8(two).ok());
+            let status = status.and_then(|two| usize::from_str_radix(two, 16).ok());
+            counts[status.unwrap_or(255)] += 1;
+        }
+        let seen = counts.iter().enumerate().filter(|(_, count)| **count > 0);
+        let shares = seen.map(|(status, count)| {
+            let share = 100.0 * f64::from(*count) / self.lines as f64;
+            format!("{:02X} {:.1}%", status, share)
+        });
+        shares.collect::<Vec<String>>().join(", ")
+    }
 }
 
 /// Seeds count up from the given one. The last list is cut off.
