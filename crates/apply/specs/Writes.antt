@@ -1,6 +1,5 @@
 -- What a change of the rows writes into the tables: at most one row of each, and the counts. A number past the last row writes none.
 -- Assumes nothing.
-use mathlib.Core.List.{List}
 use Prim.Native.Nat.{ℕ, _+_}
 use lib.ListN.{set}
 use Rattle.numbers.specs.Numbers.{mostThreads, mostTags, mostObjects}

@@ -29,7 +29,8 @@ use Rattle.records.specs.Records.{gathered}
 use Rattle.records.proofs.Numbering.{Numbers, ended, clauses, NumbersOf}
 use Rattle.records.proofs.Shelf.{Shelf, row, Record}
 use Rattle.entry.proofs.Elements.{Each}
-use Rattle.entry.proofs.Shared.{renamed, Kept, lends-shared, comes-back}
+use Rattle.lent.proofs.Passing.{renamed}
+use Rattle.entry.proofs.Shared.{Kept, lends-shared, comes-back}
 
 -- what a reference to a list of records owns
 abbrev pub Mine : (R : RattleType) → Lft → RefT (List (R .Denot)) → Fml

@@ -25,11 +25,8 @@ use denote.Ref.{RefT}
 use denote.Slice.{slice-vals, MutSlice, ShrSlice, heres, Room, at-slice, codedHoleys}
 use denote.Lend.{Held, lends-shr-slice}
 use denote.Index.{opens-slice, closes-slice}
+use Rattle.lent.proofs.Passing.{renamed}
 use Rattle.entry.proofs.Elements.{Each, all-shown}
-
--- the same place and list, under another name
-abbrev pub renamed : {X : Type 0} → RefT X → GName → RefT X
-renamed x δ = record { ptr = x .ptr; name = δ; now = x .now }
 
 module _ (R : RattleType) (κ κ′ : Lft) (q : Share) (x : RefT (List (R .Denot))) where
   abbrev all-of : Fml

@@ -1,8 +1,7 @@
 -- Calls of the functions of this crate, as steps of a walk that holds a `&mut`. The reference is lent for the call, as a `&` to a reader and as a `&mut` to a writer, and comes back:
 -- as it was, or at the value that the contract says.
 --     lends-shared, shared-back            a `&mut` is lent as a `&`, and comes back as it was.        Kept     what the holder keeps meanwhile
---     calls-reader, calls-reader-last      the caller learns what the result is.        calls-writer, calls-writer-last      the caller has the reference at the new value
--- The `-last` rules are for a call that is the last statement of its part, as of an arm of a branch.
+--     calls-reader      the caller learns what the result is.        calls-writer      the caller has the reference at the new value
 -- What is passed beside the reference is given at any lifetimes, since the lifetime of the loan is made here. Assumes `Given`.
 use mathlib.Core.Path.{_≡_, sym, ap, subst}
 use Prim.Native.Nat.{ℕ}
@@ -18,7 +17,7 @@ use ghost.Atoms.{Atoms, sem}
 use sound.WpLaws.{FmC}
 use contract.Lifetimes.{Lfts}
 use contract.Monad.{fact}
-use types.Kit.{Given, Goal, Item, Post, Seq, Soaks, ‵, raw, runs, lands, settles, _⊛_, some, later, _$_, _∵_, !, qed, move, drop, use0, use1, use2, use3, split, join, pick, fsplit, fjoin, frame, await, updating, now as at-once, show, done}
+use types.Kit.{Given, Goal, Item, Post, Seq, Soaks, ‵, raw, runs, lands, _⊛_, some, later, _$_, _∵_, !, qed, move, drop, use0, use1, use2, use3, split, join, pick, fsplit, fjoin, frame, await, updating, now as at-once, show, done}
 use types.Run.{Opds}
 use types.SemTy.{Body as Holds}
 use types.Tokens.{lft-new, lft-end, lent-back}
@@ -29,7 +28,7 @@ use denote.Plain.{Nothing}
 use denote.RattleType.{Valss, flat, owns}
 use denote.Ref.{RefT, ShrRef, at-last, ptr-vals}
 use denote.Steps.{only, nothing, facts, heard}
-use denote.Triple.Call.{calls-at, calls-at-last}
+use denote.Triple.Call.{calls-at}
 use denote.Triple.Clauses as Clauses
 use denote.Triple.Clauses.{ensured}
 use denote.Triple.Statement.{Triple}
@@ -113,15 +112,6 @@ module _ (f : Reader) (a : (κs : Lfts 1) → Passed κs (f .more)) (vss : (κs 
           lends t tt (λ ν δ. calls-at t fm (Reads f 𝓤 H A) known (to-read 𝓤 H A W (ν ∷ []) (renamed x δ)) (os (ν ∷ [], tt) _ _) (λ v.
           learns t (λ u. lands C Λ E d u rest p) (λ u. tt) ν δ v (λ r e is. k (ν ∷ [], tt) r e is)))
 
-      pub calls-reader-last : K → FmC 𝓤 H (W .laws) C → Triple 𝓤 (C g) (Reads f 𝓤 H A)
-          → ((κs : Lfts 1) (i j : Item 𝓤) → Opds K W (i ∷ j ∷ Γ) E xs (vptr (x .ptr .0) (x .ptr .1) ∷ flat (rows κs (f .more)) (vss κs)))
-          → ((κs : Lfts 1) (r : Value (f .result)) → Is-read x κs r → Is (row (f .result)) r (f .result .val r ∷ [])
-          → Seq K W (‵ (Mine (f .from) κ x) ∷ ‵ (flft κ q) ∷ Γ) (settles E d (f .result .val r) p))
-          → Seq K W (‵ (Mine (f .from) κ x) ∷ ‵ (flft κ q) ∷ Γ) (runs C Λ E (call g xs d) p)
-      calls-reader-last t fm known os k =
-          lends t tt (λ ν δ. calls-at-last t fm (Reads f 𝓤 H A) known (to-read 𝓤 H A W (ν ∷ []) (renamed x δ)) (os (ν ∷ [], tt) _ _) (λ v.
-          learns t (λ u. settles E d u p) (λ u. tt) ν δ v (λ r e is. k (ν ∷ [], tt) r e is)))
-
 -- ---- a writer
 module _ (f : Writer) (a : (κs : Lfts 1) → Passed κs (f .more)) (vss : (κs : Lfts 1) → Valss (rows κs (f .more)))
     (are : (κs : Lfts 1) → Are (rows κs (f .more)) (Ises (rows κs (f .more))) (a κs) (vss κs)) where
@@ -175,11 +165,3 @@ module _ (f : Writer) (a : (κs : Lfts 1) → Passed κs (f .more)) (vss : (κs 
       calls-writer t fm {rest} known os k =
           lends-again-to t tt (λ ν δ. calls-at t fm (Writes f 𝓤 H A) known (to-write 𝓤 H A W (ν ∷ []) (renamed x δ)) (os (ν ∷ [], tt) _ _) (λ v.
           has-back t (λ u. lands C Λ E d u rest p) (λ u. tt) ν δ v (λ h e. k (ν ∷ [], tt) h e)))
-
-      pub calls-writer-last : K → FmC 𝓤 H (W .laws) C → Triple 𝓤 (C g) (Writes f 𝓤 H A)
-          → ((κs : Lfts 1) (i j : Item 𝓤) → Opds K W (i ∷ j ∷ Γ) E xs (vptr (x .ptr .0) (x .ptr .1) ∷ flat (rows κs (f .more)) (vss κs)))
-          → ((κs : Lfts 1) (h : Value (f .on)) → Is-written x κs h → Seq K W (‵ (Mine (f .on) κ (at-last x h)) ∷ ‵ (flft κ q) ∷ Γ) (settles E d vunit p))
-          → Seq K W (‵ (Mine (f .on) κ x) ∷ ‵ (flft κ q) ∷ Γ) (runs C Λ E (call g xs d) p)
-      calls-writer-last t fm known os k =
-          lends-again-to t tt (λ ν δ. calls-at-last t fm (Writes f 𝓤 H A) known (to-write 𝓤 H A W (ν ∷ []) (renamed x δ)) (os (ν ∷ [], tt) _ _) (λ v.
-          has-back t (λ u. settles E d u p) (λ u. tt) ν δ v (λ h e. k (ν ∷ [], tt) h e)))

@@ -1,7 +1,7 @@
 -- Calls of the readers of this crate, as steps of a walk that holds a `&` only. The same reference is passed on, for as long as it lives, and the borrow is kept: so nothing has to come back.
---     calls-on, calls-on-last      the caller learns what the result is. The `-last` rule is for a call that is the last statement of its part
---     asks, said                   what a reader asks is had of a `&`, at any lifetime and any share of its token; and what it says of the result
---     of-one                       a function of plain data with one parameter, as such a walk calls it (`Told`)
+--     calls-on         the caller learns what the result is
+--     asks, said       what a reader asks is had of a `&`, at any lifetime and any share of its token; and what it says of the result
+--     of-one           a function of plain data with one parameter, as such a walk calls it (`Told`)
 -- A reader is asked under a name of its own: the walk of a reader does not keep the one that it was passed. Assumes `Given`.
 use mathlib.Core.Path.{_≡_, refl, sym, ap, subst}
 use mathlib.Core.List.{List, [], _∷_}
@@ -14,7 +14,7 @@ use prog.Wp.{Heap, Env, Calls, Loops}
 use ghost.Atoms.{Atoms, sem}
 use sound.WpLaws.{FmC}
 use contract.Monad.{fact}
-use types.Kit.{Given, Goal, Item, Post, Seq, Soaks, ‵, raw, runs, lands, settles, _⊛_, some, later, _$_, _∵_, !, qed, move, drop, use0, use1, use2, split, join, pick, fjoin, fjoin3, feqI, frame, await, done}
+use types.Kit.{Given, Goal, Item, Post, Seq, Soaks, ‵, raw, runs, lands, _⊛_, some, later, _$_, _∵_, !, qed, move, drop, use0, use1, use2, split, join, pick, fjoin, fjoin3, feqI, frame, await, done}
 use types.Run.{Opds}
 use types.Tokens.{name-new, name-done, shr-bor-dup}
 use denote.Exit.{yes}
@@ -23,7 +23,7 @@ use denote.RattleType.{Valss, flat, owns}
 use denote.Ref.{RefT, ShrRef, ptr-vals}
 use denote.Signature.{plain}
 use denote.Steps.{only, nothing, facts, heard}
-use denote.Triple.Call.{calls-at, calls-at-last}
+use denote.Triple.Call.{calls-at}
 use denote.Triple.Clauses as Clauses
 use denote.Triple.Clauses.{ensured}
 use denote.Triple.Statement.{Triple}
@@ -88,10 +88,3 @@ module _ (f : Reader) {M : Type 1} {𝓤 : URA M} {H : Heap 𝓤} {A : Atoms �
         → Seq K W (‵ (shared (f .from) κ x) ∷ ‵ (flft κ q) ∷ Γ) (lands C Λ E d (f .result .val r) rest p))
         → Seq K W (‵ (shared (f .from) κ x) ∷ ‵ (flft κ q) ∷ Γ) (runs C Λ E (seq (call g xs d) rest) p)
     calls-on t fm {rest} known os k = passes-on t tt (λ δ. calls-at t fm (Reads f 𝓤 H A) known (Reading.to f 𝓤 H A κ q (renamed x δ) a vss) (os _ _) (λ v. hears t (λ u. lands C Λ E d u rest p) (λ u. tt) δ v k))
-
-    pub calls-on-last : K → FmC 𝓤 H (W .laws) C → Triple 𝓤 (C g) (Reads f 𝓤 H A)
-        → ((i j : Item 𝓤) → Opds K W (i ∷ j ∷ Γ) E xs (vptr (x .ptr .0) (x .ptr .1) ∷ flat (rows (κ, tt) (f .more)) vss))
-        → ((r : Value (f .result)) → r ≡ f .gives (κ, tt) (x .now) a → Is (row (f .result)) r (f .result .val r ∷ [])
-        → Seq K W (‵ (shared (f .from) κ x) ∷ ‵ (flft κ q) ∷ Γ) (settles E d (f .result .val r) p))
-        → Seq K W (‵ (shared (f .from) κ x) ∷ ‵ (flft κ q) ∷ Γ) (runs C Λ E (call g xs d) p)
-    calls-on-last t fm known os k = passes-on t tt (λ δ. calls-at-last t fm (Reads f 𝓤 H A) known (Reading.to f 𝓤 H A κ q (renamed x δ) a vss) (os _ _) (λ v. hears t (λ u. settles E d u p) (λ u. tt) δ v k))

@@ -22,11 +22,9 @@ use denote.Slice.{sliceVal, slice-vals, heres, Room, finally, at-slice, codedHol
 use denote.Lend.{Held, lends-slice, slice-back}
 use denote.Index.{row, whole-out, whole-in, opens-slice, closes-slice}
 use denote.Ref.{at-last}
-use Rattle.monitor.proofs.Turning.{Bytes, Buffer, Changed}
-
--- the same bytes, under another name
-abbrev pub renamed : Bytes → GName → Bytes
-renamed x δ = record { ptr = x .ptr; name = δ; now = x .now }
+use Rattle.lent.proofs.Passing.{renamed}
+use Rattle.step.proofs.Acting.{Bytes, Buffer}
+use Rattle.monitor.proofs.Turning.{Changed}
 
 module _ (κ κ′ : Lft) (q : Share) (x : Bytes) where
   -- the buffer's places, known as γ

@@ -42,10 +42,12 @@ use denote.Triple.Clauses.{Ended, closing, ensured}
 use denote.Triple.Entry.{Vals}
 use denote.Triple.Spec.{tripleOf}
 use denote.Triple.Statement.{Contract, Triple}
+use Rattle.lent.proofs.Passing.{renamed}
 use Rattle.lent.proofs.Plain.{Kind, Value, row}
 use Rattle.records.proofs.Stated.{Promise, promises}
-use Rattle.monitor.proofs.Turning.{Bytes, Buffer, Read, Changed}
-use Rattle.monitor.proofs.Relending.{renamed, Waiting, lent-on, back}
+use Rattle.step.proofs.Acting.{Bytes, Buffer}
+use Rattle.monitor.proofs.Turning.{Read, Changed}
+use Rattle.monitor.proofs.Relending.{Waiting, lent-on, back}
 
 -- with the state s, the lists l and g, the store b, the frame f and the answer buffer a
 pub record Test : Type 2 where

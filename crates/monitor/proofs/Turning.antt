@@ -2,7 +2,7 @@
 -- Its contract says what the result is, and what the state, the store and the answer buffer are at exit.
 --     Turn             such a function: the types, what it asks, and what it does.        Deed, where-holds, always     one by what it does, that asks for φ, and one that asks nothing
 --     Turns f          its contract.        ended, promise     its signature, and what it says
---     Read, Buffer, Changed        numbers that are read, a lent buffer, and one at another list of as many bytes.        state-goes, buffer-goes      they are given up: what says the last value is left
+--     Read, Changed        numbers that are read, and a lent buffer at another list of as many bytes.        state-goes, buffer-goes      they are given up: what says the last value is left
 --     Had, Left        what a walk of it has at entry, and what it is to have at exit.        ends     how the walk ends.        meets-by     the function meets its contract, by a walk
 --     calls-turn       a call of it: the state and the buffers are given up for good
 -- Assumes `Given`.
@@ -40,13 +40,7 @@ use denote.Triple.Walked.{Stays, stay-dropped, gave-ref, gave-slice, walkOf, goe
 use Rattle.lent.proofs.Plain.{Kind, Value, row}
 use Rattle.lent.proofs.Writing.{Mine}
 use Rattle.records.proofs.Stated.{Promise}
-
--- bytes or numbers behind a reference
-abbrev pub Bytes : Type 0
-Bytes = RefT (List ℕ)
-
-abbrev pub Buffer : Lft → Bytes → Fml
-Buffer κ x = MutSlice (named 0) κ u8 .own x (slice-vals x)
+use Rattle.step.proofs.Acting.{Bytes, Buffer}
 
 abbrev pub Read : (R : RattleType) → Lft → RefT (List (R .Denot)) → Fml
 Read R κ x = ShrSlice (named 0) κ R .own x (slice-vals x)

@@ -1,14 +1,13 @@
 -- What is read of the tables row by row is what a request sees. Assumes nothing.
-use mathlib.Core.Path.{_≡_, refl, sym, ap, ap₂, _∙_}
+use mathlib.Core.Path.{_≡_, refl, ap₂}
 use mathlib.Core.List.{List, [], _∷_}
 use Prim.Native.Nat.{ℕ, zero, suc}
 use lib.ListN.{getD}
 use Rattle.numbers.specs.declared.Thread.{Thread}
 use Rattle.tables.specs.declared.Tables.{Tables}
 use Rattle.tables.specs.declared.rows.ThreadRow.{ThreadRow}
-use Rattle.tables.specs.declared.rows.TagRow.{TagRow}
 use Rattle.tables.specs.Rows.{rankOf}
-use Rattle.tables.specs.Things.{noThread, threadAt, tagAt, objectAt, supertagOf, lineageOf}
+use Rattle.tables.specs.Things.{noThread, threadAt, tagAt, objectAt, supertagOf}
 use Rattle.tables.proofs.Lineages.{lineage-read}
 use Rattle.lent.specs.Lent.{countsOf}
 use Rattle.frames.specs.declared.requests.Request.{Request}

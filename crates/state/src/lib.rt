@@ -1,6 +1,6 @@
 // The state of the monitor: the tables and, beside them, the remembered answers. How it starts.
 ghost use mathlib.Core.Path.{_≡_};
-ghost use Rattle.state.specs.Start.{emptyMemory, started, zeroed, cleared};
+ghost use Rattle.state.specs.Start.{emptyMemory, started, zeroed};
 use memory::Memory;
 use numbers::REMEMBERED;
 use tables::Tables;
@@ -59,14 +59,4 @@ pub fn start(size: usize, store: &mut [u8]) -> Started
     let bytes = store.len();
     store::clear(store, 0, bytes);
     fresh(size)
-}
-
-// "The host may clear the memory between requests; this leaves the counters."
-pub fn clear(s: State) -> State
-    ensures { λ r. ⌜ r ≡ cleared s ⌝ }
-{
-    let tables = s.tables;
-    let old = s.memory;
-    let memory = memory::clear(old);
-    State { tables, memory }
 }

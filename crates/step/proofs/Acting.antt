@@ -36,7 +36,8 @@ use Rattle.lent.proofs.Passing.{renamed}
 use Rattle.lent.proofs.Plain.{Kind, Value, row}
 use Rattle.step.proofs.Slices.{Read, Relent, relends, relent-back}
 
-abbrev Bytes : Type 0
+-- bytes or numbers behind a reference
+abbrev pub Bytes : Type 0
 Bytes = RefT (List ℕ)
 
 -- a lent buffer

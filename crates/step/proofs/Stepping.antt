@@ -14,17 +14,15 @@ use Rattle.tables.specs.declared.rows.ThreadRow.{ThreadRow}
 use Rattle.tables.specs.Things.{noThread, threadAt}
 use Rattle.frames.specs.Requests.{threadOf}
 use Rattle.sight.specs.declared.Sight.{Sight}
-use Rattle.outcomes.specs.declared.Outcome.{Outcome}
 use Rattle.apply.specs.Apply.{countAfter}
 use Rattle.apply.specs.Writes.{written}
 use Rattle.state.specs.declared.State.{State}
 use Rattle.rules.specs.Tested.{holdButTruth}
 use Rattle.rules.proofs.RuleLaws.{rules-but-truth}
 use Rattle.rules.proofs.Gives.{memory-fits}
-use Rattle.step.specs.declared.Acted.{Acted}
 use Rattle.step.specs.declared.Considered.{Considered}
 use Rattle.step.specs.World.{HasRoom}
-use Rattle.step.specs.Step.{seen, asked, consideredBy, stepped, remembers}
+use Rattle.step.specs.Step.{seen, asked, consideredBy, stepped}
 use Rattle.step.specs.Act.{countsIn, acted}
 use Rattle.step.proofs.Room.{has-room}
 use Rattle.step.proofs.Writing.{all-written, read-fits}

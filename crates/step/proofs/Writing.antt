@@ -1,10 +1,10 @@
 -- What a request writes into a state leaves the state that the step is defined to leave; and what it comes to has room for the row
 -- that was read of its thread. Assumes nothing.
-use mathlib.Core.Path.{_≡_, refl, sym, ap, ap₂, subst, _∙_}
+use mathlib.Core.Path.{_≡_, refl, ap, ap₂, _∙_}
 use mathlib.Core.List.{List}
-use Prim.Native.Nat.{ℕ, _≤_, _<_}
+use Prim.Native.Nat.{ℕ, _<_}
 use native.Mathlib.Omega.{arith}
-use lib.ListN.{length, getD, set}
+use lib.ListN.{length, set}
 use lib.Seq.{set-out}
 use Rattle.numbers.specs.Numbers.{mostThreads, mostTags, mostObjects}
 use Rattle.tables.specs.declared.Tables.{Tables}

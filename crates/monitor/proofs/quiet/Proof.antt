@@ -1,6 +1,5 @@
 -- `monitor::quiet` meets its contract: one byte for 9, none for 10. Assumes nothing.
 use mathlib.Core.Path.{refl, ap}
-use mathlib.Core.Bool.{cond}
 use Prim.Native.Nat.{ℕ}
 use borrow.Author.Tests.{eq-eqb, ne-eqb}
 use Rattle.numbers.proofs.Chain.{skip, hit}

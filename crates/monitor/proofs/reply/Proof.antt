@@ -56,7 +56,8 @@ use Rattle.monitor.proofs.reply as fn
 use Rattle.monitor.proofs.reply.Code as code
 use Rattle.monitor.proofs.Replying.{told-of, the-reply, replying}
 use Rattle.monitor.proofs.Testing.{Test, Tests, calls-test}
-use Rattle.monitor.proofs.Turning.{Bytes, Changed, Of, Deed, Turn, where-holds, always, Turns, ended, promise, Had, passed, End, ends, meets-by, state-goes, buffer-goes, calls-turn}
+use Rattle.step.proofs.Acting.{Bytes}
+use Rattle.monitor.proofs.Turning.{Changed, Of, Deed, Turn, where-holds, always, Turns, ended, promise, Had, passed, End, ends, meets-by, state-goes, buffer-goes, calls-turn}
 
 -- the tests have the number `number-of`, 0 where the request goes on, and leave the answer buffer at `buffer-of`; then follows what is `told`, or the step
 module _ (S R : Kind) (number-of : Of S ℕ) (buffer-of : Of S (List ℕ)) (told : ℕ → Value R) (φ : Value S → (l g b f a : List ℕ) → Type 0) (step reply : Deed S R) where

@@ -6,7 +6,6 @@ use Prim.Native.Nat.{ℕ}
 use borrow.Author.Needs.{needs}
 use Rattle.memory.specs.declared.Memory.{Memory}
 use Rattle.tables.specs.declared.rows.ThreadRow.{ThreadRow}
-use Rattle.frames.specs.Requests.{threadOf}
 use Rattle.answers.specs.Answers.{answerBytes, front}
 use Rattle.answers.proofs.Lengths.{answer-length}
 use Rattle.sight.specs.declared.Sight.{Sight}

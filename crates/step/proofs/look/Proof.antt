@@ -29,8 +29,6 @@ use denote.Triple.Table.{cited}
 use Rattle.records.proofs.Stated.{stated}
 use Rattle.records.proofs.Steps.{var, sets}
 use Rattle.tables.specs.Things.{noThread}
-use Rattle.frames.specs.declared.requests.Request.{Request}
-use Rattle.numbers.specs.declared.Thread.{Thread}
 use Rattle.sight.specs.Sight.{sightOf}
 use Rattle.lent.proofs.Plain.{Kind, Value, row, ty, far, word, typed}
 use Rattle.lent.proofs.Reading.{Reader, Reads}
@@ -45,10 +43,9 @@ use Rattle.step.proofs.Asking.Laws as Ak′
 use Rattle.step.proofs.Seen as Se
 use Rattle.step.proofs.Seen.Laws as Se′
 use Rattle.step.proofs.StepKinds as kinds
-use Rattle.step.proofs.Holding.{Held, calls-held}
+use Rattle.step.proofs.Holding.{calls-held}
 use Rattle.step.proofs.Looking.{Looks, passed, End, had, ends, meets-by, ended, promise}
 use Rattle.step.proofs.OfBytes.{OfBytes, calls-of-bytes}
-use Rattle.step.proofs.Slices.{Read}
 use Rattle.step.proofs.asking_of.Symbol as asking-def
 use Rattle.step.proofs.asking_of.Met as asking-thm
 use Rattle.sight.proofs.sight_of.Symbol as sight-def

@@ -1,7 +1,6 @@
 -- `step::writes_of` meets its contract: the counts follow their lists. Assumes nothing.
 use mathlib.Core.Path.{ap₂, _∙_}
 use Prim.Native.Nat.{ℕ}
-use borrow.Author.Needs.{needs}
 use Rattle.apply.specs.Writes.{rowWrites}
 use Rattle.step.proofs.writes_of.Statement.{statement}
 use Rattle.step.proofs.writes_of.Tie as tie
