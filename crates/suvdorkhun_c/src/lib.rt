@@ -2,7 +2,6 @@
 // and a length, and nothing is asked of what stands in them: each function answers whatever it is lent.
 ghost use mathlib.Core.Path.{_≡_};
 ghost use mathlib.Core.List.{map};
-ghost use Rattle.tables.specs.Rows.{flagOf};
 ghost use Rattle.store.specs.Store.{over};
 ghost use Rattle.records.specs.Records.{principalLink, tagLink, cleared as clearedLinks};
 ghost use Rattle.state.specs.Start.{started, zeroed, cleared};
@@ -21,6 +20,7 @@ use records::tags;
 use session::run;
 use state::State;
 use state::start;
+use tables::says::flag_of;
 
 // How many bytes a State has.
 const STATE_SIZE: usize = 3704;
@@ -86,12 +86,6 @@ pub extern "C" fn suvdorkhun_clear(state: &mut State)
     forget(state);
 }
 
-fn flag(set: bool) -> u8
-    ensures { λ r. ⌜ r ≡ flagOf set ⌝ }
-{
-    if set { 1 } else { 0 }
-}
-
 // A whole list of lines from the fresh state with this memory size.
 #[no_mangle]
 pub extern "C" fn suvdorkhun_run(
@@ -105,7 +99,7 @@ pub extern "C" fn suvdorkhun_run(
     ensures { λ _. ⌜ now (out .exit) ≡ over (now (out .entry)) 0 (ranBytes size (now (store .entry)) (now (input .entry)) (now (out .entry))) ⌝ }
 {
     let r = run(size, store, input, out);
-    let complete = flag(r.complete);
+    let complete = flag_of(r.complete);
     Listed {
         status: r.status,
         complete,

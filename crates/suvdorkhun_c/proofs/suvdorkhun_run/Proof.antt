@@ -24,4 +24,4 @@ suvdorkhun-run-spec =
     (λ c κs. search needs)
     (λ c. search needs)
     (λ c. search needs)
-    (λ c. (told _ _ _ (c .flag .ensures) (c .before .before .before .before .before .run .ensures .0), c .before .before .before .before .before .run .ensures .1)))
+    (λ c. (told _ _ _ (c .flag-of .ensures) (c .before .before .before .before .before .run .ensures .0), c .before .before .before .before .before .run .ensures .1)))
