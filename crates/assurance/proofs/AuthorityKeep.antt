@@ -30,7 +30,7 @@ use Rattle.row_rules.specs.RowRules as rank
 use Rattle.decide_authority.specs.Authority.{isPublic, principalAdded}
 use Rattle.decide.proofs.AuthorityComes as comes
 use Rattle.apply.specs.Apply.{withTag}
-use Rattle.step.specs.World.{World, worldOf, withCounts, applied}
+use Rattle.act.specs.World.{World, worldOf, withCounts, applied}
 use Rattle.kept.proofs.LinksKept.{links-appended, links-removed, links-more, unused-appended, unused-removed, delegate-new, grant-new, principal-new}
 use Rattle.kept.proofs.TagsKept.{tags-more, tag-added}
 use Rattle.kept.proofs.ThreadsKept.{threads-more}

@@ -26,8 +26,8 @@ use Rattle.tables.specs.Things.{tagAt, lineageBy, lineageOf}
 use Rattle.row_rules.specs.RowRules.{supertagMade}
 use Rattle.frames.specs.Requests.{threadOf, requestOf}
 use Rattle.sight.specs.Sight.{tagNamed}
-use Rattle.step.specs.World.{World}
-use Rattle.step.specs.Step.{After, asksOne, seen, walked}
+use Rattle.act.specs.World.{World}
+use Rattle.act.specs.Step.{After, asksOne, seen, walked}
 use Rattle.monitor.specs.Monitor.{shortestBuffer}
 use Rattle.monitor.proofs.Entering.{when-short}
 use Rattle.kept.proofs.LinksKept.{ofTag}

@@ -35,9 +35,9 @@ use Rattle.decide.specs.Decide.{decide}
 use Rattle.decide.proofs.AuthorityComes as authority
 use Rattle.decide.proofs.ThreadComes as thread
 use Rattle.decide.proofs.ObjectComes as object
-use Rattle.step.specs.World.{worldOf, applied}
-use Rattle.step.specs.Step.{After, unlessStopped, seen, asked, outcomeBy, outcome, remembers, stepped}
-use Rattle.step.proofs.Ind.{outcome-ind}
+use Rattle.act.specs.World.{worldOf, applied}
+use Rattle.act.specs.Step.{After, unlessStopped, seen, asked, outcomeBy, outcome, remembers, stepped}
+use Rattle.act.proofs.Ind.{outcome-ind}
 use Rattle.monitor.specs.Monitor.{shortestBuffer, noRoom, broken, requested}
 use Rattle.monitor.proofs.Entering.{when-short, when-broken, when-sound}
 use Rattle.assurance.specs.Runs.{worldAfter}

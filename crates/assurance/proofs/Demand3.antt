@@ -3,7 +3,7 @@ use mathlib.Core.Path.{_≡_, refl, sym, ap, ap₂, _∙_}
 use mathlib.Core.Bool.{Bool, true, false}
 use mathlib.Core.List.{List, [], _∷_}
 use Prim.Native.Nat.{ℕ, zero, suc}
-use Rattle.step.specs.World.{World}
+use Rattle.act.specs.World.{World}
 use Rattle.assurance.specs.Runs.{Call, Machine, Seen, fresh, seenAll, clearedIf, next, entered, seenOf}
 use Rattle.assurance.specs.Demands.{MemoryNeverDecides}
 use Rattle.assurance.proofs.Sound.{Sound}

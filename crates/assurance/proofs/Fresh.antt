@@ -19,7 +19,7 @@ use Rattle.link_rules.proofs.RuleLaws.{LinksHold}
 use Rattle.row_rules.specs.RowRules.{threadsHold, threadHolds, asideMade, asideUnused, objectsHold, objectHolds}
 use Rattle.row_rules.proofs.RuleLaws.{threadsHold-is, objectsHold-is}
 use Rattle.kept.proofs.MemoryKept.{memory-fresh}
-use Rattle.step.specs.World.{worldOf}
+use Rattle.act.specs.World.{worldOf}
 use Rattle.assurance.specs.Runs.{fresh}
 use Rattle.assurance.proofs.Sound.{Sound}
 use Rattle.assurance.proofs.Worlds.{WorldHolds, all-rules}

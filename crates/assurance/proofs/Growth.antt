@@ -32,8 +32,8 @@ use Rattle.outcomes.specs.declared.Outcome.{Outcome}
 use Rattle.rules.specs.Tested.{pairTrue}
 use Rattle.decide.proofs.AuthorityComes as comes
 use Rattle.kept.proofs.TagsKept.{supertag-earlier}
-use Rattle.step.specs.World.{World, applied}
-use Rattle.step.specs.Step.{removes}
+use Rattle.act.specs.World.{World, applied}
+use Rattle.act.specs.Step.{removes}
 use Rattle.assurance.proofs.Sound.{walkIn}
 use Rattle.assurance.proofs.Worlds.{WorldHolds}
 

@@ -11,8 +11,7 @@ use lib.ListN.{length}
 use Rattle.numbers.specs.Numbers.{public, mostRemembered, countTop}
 use Rattle.numbers.proofs.Bools.{and-both, by-test, either, never}
 use Rattle.memory.specs.declared.Memory.{Memory}
-use Rattle.memory.specs.declared.Asked.{Asked}
-use Rattle.memory.specs.Remembered.{answered, emptied}
+use Rattle.memory.specs.Remembered.{Asked, answered, emptied}
 use Rattle.memory.specs.Truth.{Truthful}
 use Rattle.memory.proofs.MemoryLaws.{answers-truly, emptied-truthful}
 use Rattle.memory_rules.specs.MemoryRules.{pairMade}
@@ -21,8 +20,8 @@ use Rattle.tables.specs.Things.{threadAt}
 use Rattle.frames.specs.Requests.{threadOf, requestOf}
 use Rattle.sight.specs.Sight.{tagNamed}
 use Rattle.outcomes.specs.declared.Outcome.{Outcome}
-use Rattle.step.specs.World.{World, applied}
-use Rattle.step.specs.Step.{After, asksOne, pairAsked, walked, seen, asked, outcome, removes, remembers}
+use Rattle.act.specs.World.{World, applied}
+use Rattle.act.specs.Step.{After, asksOne, pairAsked, walked, seen, asked, outcome, removes, remembers}
 use Rattle.monitor.specs.Monitor.{shortestBuffer}
 use Rattle.monitor.proofs.Entering.{when-short}
 use Rattle.kept.proofs.MemoryKept.{memory-more, memory-emptied, memory-answered, pairs-answered, pairs-emptied, hits-answered, truthful-is}

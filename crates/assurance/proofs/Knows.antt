@@ -21,7 +21,7 @@ use Rattle.tables.specs.Things.{nobody, noThread, noTag, pastThread, threadAt, 
 use Rattle.tables.proofs.Among.{live-among}
 use Rattle.row_rules.specs.RowRules.{asideAt}
 use Rattle.apply.specs.Apply.{called, backFrom}
-use Rattle.step.specs.World.{World}
+use Rattle.act.specs.World.{World}
 use Rattle.kept.proofs.LinksKept.{ofTag}
 use Rattle.assurance.specs.Runs.{fresh}
 use Rattle.assurance.specs.Leaves.{Made, Known, changed, rest, atFirst}

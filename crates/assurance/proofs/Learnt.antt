@@ -14,7 +14,7 @@ use Rattle.tables.specs.declared.rows.TagRow.{TagRow}
 use Rattle.tables.specs.declared.rows.ObjectRow.{ObjectRow}
 use Rattle.tables.specs.Things.{threadAt}
 use Rattle.apply.specs.Apply.{withTag, withThread, labelled}
-use Rattle.step.specs.World.{World, worldOf, withCounts}
+use Rattle.act.specs.World.{World, worldOf, withCounts}
 use Rattle.kept.proofs.LinksKept.{ofTag}
 use Rattle.assurance.specs.Leaves.{Known, Made, changed, withLinks, withGrants, withTagMade, withRuns}
 use Rattle.assurance.proofs.LeafLists.{Same}

@@ -25,7 +25,7 @@ use Rattle.tables.specs.declared.rows.Rank.the-variants.{Supertag, SubtagOf}
 use Rattle.tables.specs.Things.{tagAt, rootedAt, lineageBy, lineageOf}
 use Rattle.row_rules.specs.RowRules.{rankHolds}
 use Rattle.kept.proofs.TagsKept.{supertag-earlier}
-use Rattle.step.specs.World.{World}
+use Rattle.act.specs.World.{World}
 use Rattle.assurance.proofs.Worlds.{WorldHolds}
 
 -- no link of any graph of a list leads to the public

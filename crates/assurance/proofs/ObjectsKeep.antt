@@ -37,7 +37,7 @@ use Rattle.store_rules.proofs.RuleLaws.{StoreHolds}
 use Rattle.decide_objects.specs.Objects.{emptyOf}
 use Rattle.decide.proofs.ObjectComes as comes
 use Rattle.apply.specs.Apply.{withObject}
-use Rattle.step.specs.World.{World, worldOf, applied}
+use Rattle.act.specs.World.{World, worldOf, applied}
 use Rattle.kept.proofs.ObjectsKept.{object-freed, object-put, object-changed}
 use Rattle.kept.proofs.StoreKept.{store-new, store-freed, store-written, store-put, store-taken, store-locked, store-whole-put, store-whole-taken, store-whole-freed}
 use Rattle.kept.proofs.LabelsKept.{labels-are}

@@ -26,7 +26,7 @@ use Rattle.flows.specs.Flows.{flows}
 use Rattle.prelude.specs.declared.Checked.{Checked}
 use Rattle.prelude.specs.Prelude.{prelude, asks}
 use Rattle.row_rules.specs.RowRules.{labelsMade, asideMade}
-use Rattle.step.specs.Step.{passes, seen, checked, asksOne, pairAsked, walked}
+use Rattle.act.specs.Step.{passes, seen, checked, asksOne, pairAsked, walked}
 use Rattle.assurance.specs.Runs.{Machine}
 use Rattle.assurance.proofs.Sound.{Sound, walkIn}
 

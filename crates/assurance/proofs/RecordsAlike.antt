@@ -17,7 +17,7 @@ use Rattle.tables.specs.declared.Tables.{Tables}
 use Rattle.records.specs.Records.{principalNumber, principalLink, tagNumber, tagLink}
 use Rattle.records.proofs.Readings.{same-principal-numbers, same-tag-numbers}
 use Rattle.rules.specs.Rules.{OnlyTruthBroken}
-use Rattle.step.specs.World.{worldOf}
+use Rattle.act.specs.World.{worldOf}
 use Rattle.assurance.specs.Runs.{Call, Machine, Seen, fresh, entered, next, clearedIf, seenOf, seenAll}
 use Rattle.assurance.specs.RecordRuns.{Holder, freshHolder, enteredOver, nextOver, clearedOver, seenOver, RecordsAgree}
 use Rattle.assurance.proofs.Sound.{Sound}

@@ -9,16 +9,15 @@ use lib.Dec.{ltb}
 use lib.ListN.{length}
 use Rattle.numbers.proofs.Bools.{either}
 use Rattle.numbers.proofs.Chain.{skip, hit}
-use Rattle.memory.specs.declared.Asked.{Asked}
-use Rattle.memory.specs.Remembered.{answered}
+use Rattle.memory.specs.Remembered.{Asked, answered}
 use Rattle.memory.proofs.MemoryLaws.{answers-truly}
 use Rattle.answers.specs.Answers.{statusOf, answerBytes, front}
 use Rattle.rules.specs.Tested.{breakNoRule}
 use Rattle.rules.proofs.RuleLaws.{rules-are}
 use Rattle.kept.proofs.MemoryKept.{truthful-is}
 use Rattle.outcomes.specs.declared.Outcome.{Outcome}
-use Rattle.step.specs.World.{World, applied}
-use Rattle.step.specs.Step.{asksOne, walked, pairAsked, seen, asked, outcome, stepped}
+use Rattle.act.specs.World.{World, applied}
+use Rattle.act.specs.Step.{asksOne, walked, pairAsked, seen, asked, outcome, stepped}
 use Rattle.frames.specs.Requests.{requestOf}
 use Rattle.monitor.specs.Monitor.{shortestBuffer}
 use Rattle.monitor.proofs.Entering.{when-short, when-sound}

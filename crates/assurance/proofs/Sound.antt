@@ -7,7 +7,7 @@ use Rattle.numbers.specs.Numbers.{mostThreads, mostTags, mostObjects, mostRemem
 use Rattle.memory.specs.Truth.{Truthful}
 use Rattle.rules.specs.Tested.{pairTrue}
 use Rattle.rules.specs.Rules.{OnlyTruthBroken}
-use Rattle.step.specs.World.{World}
+use Rattle.act.specs.World.{World}
 use Rattle.assurance.specs.Runs.{Machine}
 
 -- whether the pair's principal is authoritative for its tag

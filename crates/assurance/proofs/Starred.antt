@@ -14,7 +14,7 @@ use Rattle.numbers.specs.Below.{allBelow, anyBelow, countBelow}
 use Rattle.numbers.specs.Labels.{within, withTag, withoutTag, union, namesOnlyMade, size}
 use Rattle.numbers.specs.Sets.{setOf}
 use Rattle.prelude.specs.Prelude.{prelude}
-use Rattle.step.specs.Step.{outcomeBy}
+use Rattle.act.specs.Step.{outcomeBy}
 use Rattle.tables.specs.Rows.{rankOf, whatOf}
 use Rattle.tables.specs.Free.{firstOf}
 use Rattle.assurance.specs.Cases.{AllCases, allHold, runsTo, same}

@@ -23,7 +23,7 @@ use Rattle.outcomes.specs.declared.Outcome.{Outcome}
 use Rattle.row_rules.specs.RowRules.{labelsMade, asideMade}
 use Rattle.apply.specs.Apply.{withThread, labelled}
 use Rattle.decide.proofs.ThreadComes as comes
-use Rattle.step.specs.World.{World, worldOf, applied}
+use Rattle.act.specs.World.{World, worldOf, applied}
 use Rattle.kept.proofs.ThreadsKept.{RowHolds, row-holds, thread-set, ended-holds, labelled-holds, forked-holds, called-holds, back-holds}
 use Rattle.kept.proofs.LabelsKept.{without-made, labels-are}
 use Rattle.assurance.proofs.Worlds.{WorldHolds, SizedWorld}

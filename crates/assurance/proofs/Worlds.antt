@@ -11,7 +11,7 @@ use Rattle.store_rules.proofs.RuleLaws.{StoreHolds}
 use Rattle.memory_rules.proofs.RuleLaws.{MemoryHolds}
 use Rattle.rules.specs.Rules.{OnlyTruthBroken}
 use Rattle.rules.proofs.RuleLaws.{TablesHold, tables-hold, rules-but-truth}
-use Rattle.step.specs.World.{World}
+use Rattle.act.specs.World.{World}
 
 pub record WorldHolds (w : World) : Type 0 where
   pub links : LinksHold (w .links) (w .tables .links) 1 (w .tables .principals)

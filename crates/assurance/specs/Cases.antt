@@ -12,8 +12,8 @@ use Rattle.tables.specs.declared.Tables.{Tables}
 use Rattle.tables.specs.declared.rows.Rank.the-variants.{Supertag}
 use Rattle.tables.specs.Things.{nobody, noLabels, noThread, freshTables}
 use Rattle.state.specs.Start.{emptyMemory}
-use Rattle.step.specs.World.{worldOf}
-use Rattle.step.specs.Step.{stepWorld, stepMemory, stepAnswer}
+use Rattle.act.specs.World.{worldOf}
+use Rattle.act.specs.Step.{stepWorld, stepMemory, stepAnswer}
 use Rattle.assurance.specs.Runs.{Machine, fresh}
 
 -- a request and its answer, byte by byte

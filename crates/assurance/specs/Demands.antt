@@ -18,8 +18,8 @@ use Rattle.flows.specs.Flows.{flows}
 use Rattle.rules.specs.Tested.{breakNoRule}
 use Rattle.state.specs.declared.State.{State}
 use Rattle.decide.specs.Decide.{decide}
-use Rattle.step.specs.World.{worldOf}
-use Rattle.step.specs.Step.{After, seen, asksOne, asked}
+use Rattle.act.specs.World.{worldOf}
+use Rattle.act.specs.Step.{After, seen, asksOne, asked}
 use Rattle.monitor.specs.Monitor.{shortestBuffer, requested}
 use Rattle.assurance.specs.Runs.{Call, Machine, fresh, entered, worldAfter, next, clearedIf, machines, seenAll}
 use Rattle.assurance.specs.Leaves.{Known, runner, learnt, atFirst}

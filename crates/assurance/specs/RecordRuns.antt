@@ -9,7 +9,7 @@ use Rattle.numbers.specs.Numbers.{mostRemembered}
 use Rattle.store.specs.Store.{storeSize}
 use Rattle.state.specs.declared.State.{State}
 use Rattle.state.specs.Start.{freshState, cleared}
-use Rattle.step.specs.Step.{After}
+use Rattle.act.specs.Step.{After}
 use Rattle.entry.specs.declared.Lists.{Lists}
 use Rattle.entry.specs.Entry.{overRecords, listsOf, noLinks}
 use Rattle.assurance.specs.Runs.{Call, Seen, fresh, seenOf, seenAll}

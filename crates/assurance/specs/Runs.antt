@@ -10,8 +10,8 @@ use Rattle.memory.specs.declared.Memory.{Memory}
 use Rattle.memory.specs.Remembered.{emptied}
 use Rattle.tables.specs.Things.{freshTables}
 use Rattle.state.specs.Start.{emptyMemory}
-use Rattle.step.specs.World.{World, worldOf}
-use Rattle.step.specs.Step.{After}
+use Rattle.act.specs.World.{World, worldOf}
+use Rattle.act.specs.Step.{After}
 use Rattle.monitor.specs.Monitor.{requested}
 
 -- a request as it comes: its frame, and the buffer that is lent for its answer

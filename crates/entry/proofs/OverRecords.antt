@@ -20,7 +20,7 @@ use Rattle.rules.specs.Tested.{breakNoRule, holdButTruth, pairsTrue}
 use Rattle.rules.proofs.RuleLaws.{rules-but-truth}
 use Rattle.state.specs.declared.State.{State}
 use Rattle.step.specs.declared.Stepped.{Stepped}
-use Rattle.step.specs.Step.{After}
+use Rattle.act.specs.Step.{After}
 use Rattle.monitor.specs.Monitor.{shortestBuffer, quiet, requested, replyOf}
 use Rattle.monitor.proofs.Entering.{when-short, when-broken, told-status, told-written, told-links, told-grants}
 use Rattle.records.specs.declared.principals.PrincipalLink.{PrincipalLink}

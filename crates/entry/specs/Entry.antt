@@ -10,7 +10,7 @@ use Rattle.records.specs.declared.principals.PrincipalLink.{PrincipalLink}
 use Rattle.records.specs.declared.tags.TagLink.{TagLink}
 use Rattle.records.specs.Records.{principalNumber, principalLink, tagNumber, tagLink}
 use Rattle.state.specs.declared.State.{State}
-use Rattle.step.specs.Step.{Replied, After}
+use Rattle.act.specs.Step.{Replied, After}
 use Rattle.monitor.specs.Monitor.{requested}
 use Rattle.entry.specs.declared.Reply.{Reply}
 use Rattle.entry.specs.declared.Lists.{Lists}

@@ -16,8 +16,7 @@ use Rattle.numbers.proofs.Bools.{or-left, or-right, or-either, never, by-test}
 use Rattle.numbers.proofs.Says.{ltb-is, and-is, not-is}
 use Rattle.store.proofs.Over.{over-after}
 use Rattle.memory.specs.declared.Memory.{Memory}
-use Rattle.memory.specs.declared.Asked.{Asked}
-use Rattle.memory.specs.Remembered.{Fits, heldPairs, holds, without, remembered, emptied, counted, answered}
+use Rattle.memory.specs.Remembered.{Asked, Fits, heldPairs, holds, without, remembered, emptied, counted, answered}
 use Rattle.memory.specs.Truth.{among, distinct, Truthful}
 use Rattle.memory.proofs.Asking.{counted-fits}
 use Rattle.memory.proofs.MemoryLaws.{holds-is, holds-remembered, remembered-fits, remembered-distinct}

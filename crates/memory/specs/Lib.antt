@@ -1,2 +1,3 @@
 pub mod Remembered
 pub mod Truth
+pub mod Notes

@@ -9,7 +9,6 @@ use Rattle.numbers.specs.declared.Tag.{Tag}
 use Rattle.numbers.specs.Numbers.{oneMore, mostRemembered}
 use Rattle.links.specs.Links.{stands}
 use Rattle.memory.specs.declared.Memory.{Memory}
-use Rattle.memory.specs.declared.Asked.{Asked}
 
 -- a pair (principal, tag) as one number
 abbrev pub pairOf : Principal → Tag → ℕ
@@ -49,6 +48,11 @@ emptied m = record { size = m .size; held = 0; pairs = replicate 64 0; questions
 abbrev pub counted : Memory → Bool → Memory
 counted m held =
     record { size = m .size; held = m .held; pairs = m .pairs; questions = oneMore (m .questions); hits = cond held (oneMore (m .hits)) (m .hits) }
+
+-- what a question gives: the yes or no, and the memory after it
+pub record Asked : Type 0 where
+  pub yes : Bool
+  pub memory : Memory
 
 -- a question about the pair x, where the walk would answer so: "If the pair is held it is a hit, and the yes is the memory's,
 -- with no walk; otherwise the walk answers .. On yes the pair goes to the front ..; on no the memory stays."

@@ -4,12 +4,13 @@
 // The memory stands beside the tables. What it holds is a yes whatever the links say: that it is true is
 // a rule of 9, and is not tested here.
 ghost use mathlib.Core.Path.{_≡_};
-ghost use Prim.Native.Nat.{_<_};
+ghost use Prim.Native.Nat.{_≤_};
+ghost use Rattle.numbers.specs.Numbers.{mostRemembered};
 ghost use Rattle.links.specs.declared.lists.Graph.the-variants.{Principals};
-ghost use Rattle.links.specs.Links.{linksIn, findIn};
+ghost use Rattle.links.specs.Links.{linksIn};
 ghost use Rattle.links.specs.Authority.{authoritative};
-ghost use Rattle.memory.specs.Remembered.{Fits, pairOf, heldPairs, slid, withFront, remembered, emptied, counted, answered};
-use links::Found;
+ghost use Rattle.memory.specs.Remembered.{pairOf, emptied};
+ghost use Rattle.memory.specs.Notes.{asIs, wiped, counting, brought, judged};
 use links::Lineage;
 use numbers::Principal;
 use numbers::Tag;
@@ -25,10 +26,32 @@ pub struct Memory {
     pub hits: u32,
 }
 
-// What a question gives: the yes or no, and the memory after it.
-pub struct Asked {
+// How many pairs there can be; as a place, none of them.
+const PAIRS: usize = 64;
+
+// The numbers of a memory beside its pairs.
+pub struct Tally {
+    pub size: usize,
+    pub held: usize,
+    pub questions: u32,
+    pub hits: u32,
+}
+
+// What is to be written into a memory: its numbers, and the pair that comes to the front from this place, or that all
+// pairs are cleared. From a place past the last none comes.
+pub struct Note {
+    pub held: usize,
+    pub questions: u32,
+    pub hits: u32,
+    pub place: usize,
+    pub pair: u32,
+    pub clear: bool,
+}
+
+// What a question gives: the yes or no, and what it leaves to write.
+pub struct Verdict {
     pub yes: bool,
-    pub memory: Memory,
+    pub note: Note,
 }
 
 // The number of a pair.
@@ -51,105 +74,91 @@ pub fn clear(m: Memory) -> Memory
     }
 }
 
-// The first k places move on by one, over what stood at k, and x comes first.
-fn slide(pairs: [u32; 64], k: usize, x: u32) -> [u32; 64]
-    requires { ⌜ k < 64 ⌝ }
-    ensures { λ r. ⌜ r ≡ slid k x pairs ⌝ }
+// Nothing is to be written.
+pub fn as_is(t: Tally) -> Note
+    ensures { λ r. ⌜ r ≡ asIs t ⌝ }
 {
-    let mut a = pairs;
-    let mut last = x;
-    let mut i = 0;
-    while i <= k {
-        let next = a[i];
-        a[i] = last;
-        last = next;
-        i += 1;
-    }
-    a
-}
-
-// "On yes the pair goes to the front and anything beyond M falls off". The place is where it is held.
-fn remember(m: Memory, place: Found, x: u32) -> Memory
-    requires { ⌜ Fits m × (place ≡ findIn (heldPairs m) x) ⌝ }
-    ensures { λ r. ⌜ r ≡ remembered m x ⌝ }
-{
-    let held = m.held;
-    match place {
-        Found::At(k) => with_front(m, held, k, x),
-        Found::Nothing => {
-            if held < m.size {
-                return with_front(m, held + 1, held, x);
-            }
-            if held < 1 {
-                return m;
-            }
-            with_front(m, held, held - 1, x)
-        }
+    Note {
+        held: t.held,
+        questions: t.questions,
+        hits: t.hits,
+        place: PAIRS,
+        pair: 0,
+        clear: false,
     }
 }
 
-// So many pairs are held, the first k of the old ones after x.
-fn with_front(m: Memory, held: usize, k: usize, x: u32) -> Memory
-    requires { ⌜ k < 64 ⌝ }
-    ensures { λ r. ⌜ r ≡ withFront m held k x ⌝ }
+// All pairs are cleared instead; the counters are written all the same.
+pub fn wiped(n: Note) -> Note
+    ensures { λ r. ⌜ r ≡ wiped n ⌝ }
 {
-    let pairs = m.pairs;
-    let next = slide(pairs, k, x);
-    Memory {
-        size: m.size,
+    Note {
+        held: 0,
+        questions: n.questions,
+        hits: n.hits,
+        place: PAIRS,
+        pair: 0,
+        clear: true,
+    }
+}
+
+// A question is counted; so many pairs are held then, with so many hits, and this pair comes to the front from here.
+fn counted(t: Tally, held: usize, hits: u32, place: usize, pair: u32) -> Note
+    ensures { λ r. ⌜ r ≡ counting t held hits place pair ⌝ }
+{
+    Note {
         held,
-        pairs: next,
-        questions: m.questions,
-        hits: m.hits,
+        questions: one_more(t.questions),
+        hits,
+        place,
+        pair,
+        clear: false,
     }
 }
 
-// One more question, and one more hit where the pair is held.
-fn counted(m: Memory, held: bool) -> Memory
-    ensures { λ r. ⌜ r ≡ counted m held ⌝ }
+// "On yes the pair goes to the front and anything beyond M falls off": from its own place, where it is held; else from
+// behind the last pair, and where there is no room, from the last one's. With M = 0 nothing is held.
+fn brought(t: Tally, place: usize, pair: u32) -> Note
+    requires { ⌜ t .size ≤ mostRemembered ⌝ }
+    ensures { λ r. ⌜ r ≡ brought t place pair ⌝ }
 {
-    let mut next = m;
-    next.questions = one_more(m.questions);
-    if held {
-        next.hits = one_more(m.hits);
+    let held = t.held;
+    if place < PAIRS {
+        return counted(t, held, one_more(t.hits), place, pair);
     }
-    next
+    if held < t.size {
+        return counted(t, held + 1, t.hits, held, pair);
+    }
+    if held < 1 {
+        return counted(t, held, t.hits, PAIRS, pair);
+    }
+    counted(t, held, t.hits, held - 1, pair)
 }
 
 // "A question .. is asked by 06, 09, 0B and 0C, once, when the authority check is reached. If the pair is
 // held it is a hit, and the yes is the memory's, with no walk; otherwise the walk answers."
 pub fn ask<'a>(
-    m: Memory,
+    t: Tally,
+    place: usize,
+    pair: u32,
     links: &'a [u32],
     n: usize,
     tag_links: &'a [u32],
     k: usize,
     x: Lineage,
     p: Principal,
-    t: Tag,
-) -> Asked
-    requires { ⌜ Fits m ⌝ }
-    ensures { λ r. ⌜ r ≡ answered m (pairOf p t) (authoritative (linksIn (now (links .entry)) n Principals) (now («tag_links» .entry)) k x p) ⌝ }
+) -> Verdict
+    requires { ⌜ t .size ≤ mostRemembered ⌝ }
+    ensures { λ r. ⌜ r ≡ judged t place pair (authoritative (linksIn (now (links .entry)) n Principals) (now («tag_links» .entry)) k x p) ⌝ }
 {
-    let pair = pair_of(p, t);
-    let pairs = m.pairs;
-    let place = links::find(&pairs, m.held, pair);
-    if links::is_found(place) {
-        let hit = counted(m, true);
-        return Asked {
-            yes: true,
-            memory: remember(hit, place, pair),
-        };
+    if place < PAIRS {
+        let note = brought(t, place, pair);
+        return Verdict { yes: true, note };
     }
-    let asked = counted(m, false);
     if !links::authoritative(links, n, tag_links, k, x, p) {
-        return Asked {
-            yes: false,
-            memory: asked,
-        };
+        let note = counted(t, t.held, t.hits, PAIRS, pair);
+        return Verdict { yes: false, note };
     }
-    Asked {
-        yes: true,
-        memory: remember(asked, place, pair),
-    }
+    let note = brought(t, place, pair);
+    Verdict { yes: true, note }
 }

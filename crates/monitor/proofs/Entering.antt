@@ -12,7 +12,8 @@ use Rattle.rules.specs.Tested.{breakNoRule}
 use Rattle.apply.specs.Apply.{applyList}
 use Rattle.state.specs.declared.State.{State}
 use Rattle.step.specs.declared.Stepped.{Stepped}
-use Rattle.step.specs.Step.{After, stepped, stepOf}
+use Rattle.act.specs.Step.{After, stepped}
+use Rattle.step.specs.Look.{stepOf}
 use Rattle.monitor.specs.Monitor.{shortestBuffer, quiet, noRoom, broken, requested, replyOf, stopOf, stopAnswer}
 
 module _ (s : State) (l g b f a : List ℕ) where

@@ -11,7 +11,8 @@ use Rattle.rules.specs.Tested.{breakNoRule}
 use Rattle.state.specs.declared.State.{State}
 use Rattle.outcomes.specs.declared.ListChange.the-variants.{Keep}
 use Rattle.step.specs.declared.Stepped.{Stepped}
-use Rattle.step.specs.Step.{After, answeredWith, before, stepped, stepOf}
+use Rattle.act.specs.Step.{After, answeredWith, before, stepped}
+use Rattle.step.specs.Look.{stepOf}
 
 -- the room that every answer has
 abbrev pub shortestBuffer : ℕ

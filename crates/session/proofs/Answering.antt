@@ -19,7 +19,7 @@ use Rattle.records.specs.Records.{principalNumber, tagNumber}
 use Rattle.entry.specs.declared.Lists.{Lists}
 use Rattle.entry.specs.Entry.{overRecords, listsOf}
 use Rattle.state.specs.declared.State.{State}
-use Rattle.step.specs.Step.{Replied, After, before, stepAnswer, stepped}
+use Rattle.act.specs.Step.{Replied, After, before, stepAnswer, stepped}
 use Rattle.store.specs.Store.{over}
 use Rattle.session.specs.Session.{Session, lineBytes, lineAnswered, answeredLists, turn, turned, endOf, printed}
 

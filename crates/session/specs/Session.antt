@@ -11,8 +11,8 @@ use Rattle.answers.specs.Answers.{refusalNumber}
 use Rattle.memory.specs.declared.Memory.{Memory}
 use Rattle.lines.specs.Lines.{lineFeed, frameOf, isFrame, lineOf}
 use Rattle.state.specs.declared.State.{State}
-use Rattle.step.specs.World.{worldOf}
-use Rattle.step.specs.Step.{Replied, After, answeredWith}
+use Rattle.act.specs.World.{worldOf}
+use Rattle.act.specs.Step.{Replied, After, answeredWith}
 use Rattle.monitor.specs.Monitor.{shortestBuffer}
 use Rattle.records.specs.Records.{principalNumber, tagNumber}
 use Rattle.entry.specs.declared.Lists.{Lists}

@@ -1,3 +1,1 @@
-pub mod World
-pub mod Step
-pub mod Act
+pub mod Look

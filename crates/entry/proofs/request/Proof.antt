@@ -48,7 +48,7 @@ use denote.Exit.{yes}
 use Rattle.outcomes.proofs.ListChange as Ch
 use Rattle.state.specs.declared.State.{State}
 use Rattle.state.proofs.State as S
-use Rattle.step.specs.Step.{After}
+use Rattle.act.specs.Step.{After}
 use Rattle.step.specs.declared.Stepped.{Stepped}
 use Rattle.step.proofs.Stepped as Sp
 use Rattle.step.proofs.Stepped.Laws as Sp′

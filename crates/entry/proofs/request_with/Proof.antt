@@ -47,7 +47,7 @@ use denote.Exit.{yes}
 use Rattle.state.specs.declared.State.{State}
 use Rattle.state.proofs.State as St
 use Rattle.state.proofs.State.Laws as St′
-use Rattle.step.specs.Step.{After}
+use Rattle.act.specs.Step.{After}
 use Rattle.lent.proofs.StateParts.{state}
 use Rattle.lent.proofs.Writing.{Mine}
 use Rattle.records.specs.declared.principals.PrincipalLink.{PrincipalLink}

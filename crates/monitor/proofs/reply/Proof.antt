@@ -41,7 +41,8 @@ use Rattle.records.proofs.Told.{Plain, Told, calls-told}
 use Rattle.numbers.proofs.Bools.{and-left}
 use Rattle.rules.specs.Tested.{holdButTruth, pairsTrue}
 use Rattle.state.specs.declared.State.{State}
-use Rattle.step.specs.Step.{After, stepped, stepOf}
+use Rattle.act.specs.Step.{After, stepped}
+use Rattle.step.specs.Look.{stepOf}
 use Rattle.monitor.specs.Monitor.{quiet, stopOf, stopAnswer}
 use Rattle.monitor.proofs.Entering.{stops, is-sound, has-room, buffer-stays, told-step, after-step}
 use Rattle.lent.proofs.whole.Symbol as whole-def

@@ -13,7 +13,7 @@ use Rattle.entry.specs.declared.Answered.{Answered}
 use Rattle.entry.specs.declared.Lists.{Lists}
 use Rattle.entry.specs.Entry.{overRecords, listsOf}
 use Rattle.state.specs.declared.State.{State}
-use Rattle.step.specs.Step.{After}
+use Rattle.act.specs.Step.{After}
 use Rattle.session.specs.Session.{repliedIn}
 use Rattle.session.proofs.Answering.{frame-read, frame-count, frame-fits, when-frame, lists-frame, when-none, lists-none}
 use Rattle.session.proofs.answer_line.Statement.{statement}

@@ -9,7 +9,7 @@ use lib.ListN.{length, take, replicate}
 use lib.Seq.{length-take-le, take-all}
 use Rattle.store.specs.Store.{over}
 use Rattle.monitor.specs.Monitor.{shortestBuffer}
-use Rattle.step.specs.Step.{After}
+use Rattle.act.specs.Step.{After}
 use Rattle.session.specs.Session.{Session, repliedIn, sessionOf, lineBytes, lineAnswered, answeredLists, turn}
 use Rattle.session.proofs.Answering.{LineAnswered, written-fits, written-short, written-count, printed-is, end-is}
 use Rattle.session.proofs.end_line.Statement.{statement}
