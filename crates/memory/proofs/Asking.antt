@@ -1,6 +1,7 @@
 -- What a question leaves to write, written into the memory, is the memory after it. Assumes nothing.
 use mathlib.Core.Path.{_≡_, refl, sym, ap, _∙_}
 use mathlib.Core.Bool.{Bool, true, false, cond}
+use mathlib.Core.List.{List}
 use mathlib.Core.Logic.{⊎-elim}
 use Prim.Native.Nat.{ℕ, _+_, _-_, _≤_, _<_}
 use native.Mathlib.Omega.{arith}
@@ -15,8 +16,9 @@ use Rattle.links.specs.declared.lists.Found.the-variants.{At, Nothing}
 use Rattle.links.specs.Links.{findIn}
 use Rattle.memory.specs.declared.Memory.{Memory}
 use Rattle.memory.specs.declared.Note.{Note}
-use Rattle.memory.specs.Remembered.{Fits, heldPairs, counted, remembered, emptied, answered, slid, withFront}
+use Rattle.memory.specs.Remembered.{Fits, heldPairs, counted, remembered, emptied, answered, withFront}
 use Rattle.memory.specs.Notes.{tallyOf, placeOf, placeIn, renewed, noted, asIs, wiped, counting, brought, judged}
+use Rattle.memory.proofs.NoteLaws.{renewed-front}
 use Rattle.memory.proofs.Front.{found-at, moved, added, pushed, nothing}
 
 -- counting changes no pair
@@ -32,9 +34,7 @@ module _ (m : Memory) (x : ℕ) (w : Fits m) (long : length (m .pairs) ≡ 64) w
   -- it comes from place k
   from-place : (held hits k : ℕ) → k < 64
       → noted m (counting (tallyOf m) held hits k x) ≡ withFront (record { size = m .size; held = m .held; pairs = m .pairs; questions = oneMore (m .questions); hits = hits }) held k x
-  unfolding renewed
-  from-place held hits k h =
-      ap (λ (b : Bool). record { size = m .size; held = held; pairs = cond b (slid k x (m .pairs)) (m .pairs); questions = oneMore (m .questions); hits = hits }) (lt-ltb k 64 h)
+  from-place held hits k h = ap (λ (p : List ℕ). record { size = m .size; held = held; pairs = p; questions = oneMore (m .questions); hits = hits }) (renewed-front k x (m .pairs) h)
 
   -- it is held at k
   held-at : (k : ℕ) → findIn (heldPairs m) x ≡ At k → (k < 64) × (noted m (counting (tallyOf m) (m .held) (oneMore (m .hits)) k x) ≡ remembered (counted m true) x)

@@ -1,5 +1,6 @@
 pub mod Sliding
 pub mod Front
+pub mod NoteLaws
 pub mod Asking
 pub mod MemoryLaws
 pub mod Cases

@@ -4,13 +4,15 @@
 // The memory stands beside the tables. What it holds is a yes whatever the links say: that it is true is
 // a rule of 9, and is not tested here.
 ghost use mathlib.Core.Path.{_≡_};
-ghost use Prim.Native.Nat.{_≤_};
+ghost use Prim.Native.Nat.{_≤_, _<_};
+ghost use lib.ListN.{length, take};
 ghost use Rattle.numbers.specs.Numbers.{mostRemembered};
 ghost use Rattle.links.specs.declared.lists.Graph.the-variants.{Principals};
 ghost use Rattle.links.specs.Links.{linksIn};
 ghost use Rattle.links.specs.Authority.{authoritative};
-ghost use Rattle.memory.specs.Remembered.{pairOf, emptied};
-ghost use Rattle.memory.specs.Notes.{asIs, wiped, counting, brought, judged};
+ghost use Rattle.memory.specs.Remembered.{pairOf, emptied, slid};
+ghost use Rattle.memory.specs.Notes.{placeIn, renewed, asIs, wiped, counting, brought, judged};
+use links::Found;
 use links::Lineage;
 use numbers::Principal;
 use numbers::Tag;
@@ -73,6 +75,48 @@ pub fn clear(m: Memory) -> Memory
         hits: m.hits,
     }
 }
+
+// ---- the pairs, where they lie
+
+// Where x stands among the first n pairs; past the last, where it does not.
+pub fn place(pairs: &[u32; 64], n: usize, x: u32) -> usize
+    ensures { λ r. ⌜ r ≡ placeIn (take n (now (pairs .entry))) x ⌝ }
+{
+    match links::find(pairs, n, x) {
+        Found::At(k) => k,
+        Found::Nothing => PAIRS,
+    }
+}
+
+// The pairs are cleared, or x comes to the front from its place; from a place past the last none does.
+pub fn renew(pairs: &mut [u32; 64], place: usize, x: u32, clear: bool)
+    ensures { λ _. ⌜ now (pairs .exit) ≡ renewed place x clear (now (pairs .entry)) ⌝ }
+{
+    if clear {
+        *pairs = [0; 64];
+        return;
+    }
+    if place < PAIRS {
+        slide(pairs, place, x);
+    }
+}
+
+// The first k places move on by one, over what stood at k, and x comes first.
+fn slide(pairs: &mut [u32], k: usize, x: u32)
+    requires { ⌜ k < length (now pairs) ⌝ }
+    ensures { λ _. ⌜ now (pairs .exit) ≡ slid k x (now (pairs .entry)) ⌝ }
+{
+    let mut last = x;
+    let mut i = 0;
+    while i <= k {
+        let next = pairs[i];
+        pairs[i] = last;
+        last = next;
+        i += 1;
+    }
+}
+
+// ---- what a question leaves to write
 
 // Nothing is to be written.
 pub fn as_is(t: Tally) -> Note
