@@ -1,6 +1,7 @@
--- The parts of a state, and their kinds: its memory, its counts, and the three tables of rows. Assumes nothing.
+-- The parts of a state, and their kinds: its memory and what is in it, its counts, and the three tables of rows. Assumes nothing.
 use mathlib.Core.Path.{refl}
 use mir.Syntax.{w32}
+use denote.Struct.Field.{u32-field}
 use Rattle.memory.proofs.Memory as M
 use Rattle.memory.proofs.Memory.Laws as M′
 use Rattle.state.proofs.State as S
@@ -34,6 +35,21 @@ object = of-field Ob.the-field refl Ob′.the-field-laws Ob′.the-field-copy Ob
 
 abbrev pub memory : Path (row state) (row remembered)
 memory = field-at S.struct S.propositions S′.the-laws (λ v. tt) 1 refl refl
+
+abbrev pub size : Path (row state) (row word)
+size = then memory (field-at M.struct M.propositions M′.the-laws (λ v. tt) 0 refl refl)
+
+abbrev pub held : Path (row state) (row word)
+held = then memory (field-at M.struct M.propositions M′.the-laws (λ v. tt) 1 refl refl)
+
+abbrev pub pairs : Path (row state) (row (array-of (number w32) 64))
+pairs = then memory (then (field-at M.struct M.propositions M′.the-laws (λ v. tt) 2 refl refl) (as-array u32-field 64))
+
+abbrev pub questions : Path (row state) (row (number w32))
+questions = then memory (field-at M.struct M.propositions M′.the-laws (λ v. tt) 3 refl refl)
+
+abbrev pub hits : Path (row state) (row (number w32))
+hits = then memory (field-at M.struct M.propositions M′.the-laws (λ v. tt) 4 refl refl)
 
 abbrev tables : Path (row state) (lain Tb.the-row)
 tables = field-at S.struct S.propositions S′.the-laws (λ v. tt) 0 refl refl

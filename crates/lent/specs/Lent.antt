@@ -2,6 +2,8 @@
 use Prim.Native.Nat.{ℕ}
 use lib.ListN.{set}
 use Rattle.memory.specs.declared.Memory.{Memory}
+use Rattle.memory.specs.declared.Note.{Note}
+use Rattle.memory.specs.Notes.{noted}
 use Rattle.tables.specs.declared.Tables.{Tables}
 use Rattle.tables.specs.declared.rows.ThreadRow.{ThreadRow}
 use Rattle.tables.specs.declared.rows.TagRow.{TagRow}
@@ -18,6 +20,10 @@ tablesPut s t = record { tables = t; memory = s .memory }
 
 abbrev pub memoryPut : State → Memory → State
 memoryPut s m = record { tables = s .tables; memory = m }
+
+-- with n written into its memory
+abbrev pub notePut : State → Note → State
+notePut s n = memoryPut s (noted (s .memory) n)
 
 -- with row n of a table replaced
 module _ (s : State) where

@@ -3,14 +3,17 @@
 //
 // The borrow checker covers no reference to a struct, so each function here is thin, and proved by hand. Each
 // shape is walked once, over the type of what is read or written and the way to it (proofs/Parts.antt and what
-// stands on it); proofs/Calling.antt has the calls of these functions from a walk that holds a `&mut State`, and
-// proofs/Passing.antt those from one that holds a `&State`.
+// stands on it); proofs/Calling.antt has the calls of these functions from a walk that holds a `&mut State`,
+// proofs/Passing.antt those from one that holds a `&State`, and proofs/Lending.antt calls for which a part is lent.
 ghost use mathlib.Core.Path.{_≡_};
-ghost use lib.ListN.{getD};
+ghost use lib.ListN.{getD, take};
 ghost use Rattle.tables.specs.Things.{noThread, tagAt, objectAt};
 ghost use Rattle.state.specs.Start.{cleared};
-ghost use Rattle.lent.specs.Lent.{countsOf, threadPut, tagPut, objectPut, countsPut, memoryPut};
+ghost use Rattle.memory.specs.Notes.{tallyOf, placeIn};
+ghost use Rattle.lent.specs.Lent.{countsOf, threadPut, tagPut, objectPut, countsPut, memoryPut, notePut};
 use memory::Memory;
+use memory::Note;
+use memory::Tally;
 use numbers::OBJECTS;
 use numbers::TAGS;
 use numbers::THREADS;
@@ -68,6 +71,24 @@ pub fn counts_of(s: &State) -> Counts
         tags: s.tables.tags,
         grants: s.tables.grants,
     }
+}
+
+pub fn tally(s: &State) -> Tally
+    ensures { λ r. ⌜ r ≡ tallyOf (now (s .entry) .memory) ⌝ }
+{
+    Tally {
+        size: s.memory.size,
+        held: s.memory.held,
+        questions: s.memory.questions,
+        hits: s.memory.hits,
+    }
+}
+
+// Where the pair x stands among the first n that are remembered; 64 where it does not.
+pub fn place_of(s: &State, n: usize, x: u32) -> usize
+    ensures { λ r. ⌜ r ≡ placeIn (take n (now (s .entry) .memory .pairs)) x ⌝ }
+{
+    memory::place(&s.memory.pairs, n, x)
 }
 
 // A copy of a whole table, for the lowest free number.
@@ -135,6 +156,16 @@ pub fn put_memory(s: &mut State, m: Memory)
     ensures { λ _. ⌜ now (s .exit) ≡ memoryPut (now (s .entry)) m ⌝ }
 {
     s.memory = m;
+}
+
+// The memory's numbers and pairs, as a note of them says.
+pub fn note(s: &mut State, n: Note)
+    ensures { λ _. ⌜ now (s .exit) ≡ notePut (now (s .entry)) n ⌝ }
+{
+    s.memory.held = n.held;
+    s.memory.questions = n.questions;
+    s.memory.hits = n.hits;
+    memory::renew(&mut s.memory.pairs, n.place, n.pair, n.clear);
 }
 
 pub fn put_whole(s: &mut State, t: State)

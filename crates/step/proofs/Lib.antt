@@ -1,6 +1,5 @@
 pub mod Slices
 pub mod Looking
 pub mod Acting
-mod Holding
 mod OfBytes
 mod StepKinds

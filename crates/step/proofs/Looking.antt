@@ -17,7 +17,7 @@ use prog.Wp.{Heap, Env, Calls, Loops, WpFn, Tables}
 use ghost.Atoms.{Atoms, sem}
 use sound.WpLaws.{FmC, WpFn-mono}
 use contract.Monad.{fact}
-use types.Kit.{Given, Item, Post, Seq, ‵, raw, ⋆, runs, lands, _⊛_, some, later, cut, _$_, _∵_, !, qed, move, keep, drop, use1, use2, split, join, pick, fsplit, fjoin, suffices, frame, await, done}
+use types.Kit.{Given, Item, Post, Seq, ‵, raw, ⋆, runs, lands, _⊛_, some, later, cut, _$_, _∵_, !, qed, move, keep, drop, use1, use2, split, join, pick, fsplit, fsplit3, fjoin, suffices, frame, await, done}
 use types.Run.{Opds}
 use types.Tokens.{lft-new, lft-end}
 use denote.Builtin.{u8}
@@ -39,8 +39,8 @@ use Rattle.records.proofs.Stated.{Promise, promises}
 use Rattle.lent.proofs.Passing.{renamed}
 use Rattle.lent.proofs.Calling.{Kept, Lent, lends-shared, shared-back}
 use Rattle.lent.proofs.Plain.{Kind, Value, row}
+use Rattle.lent.proofs.Reading.{shared}
 use Rattle.lent.proofs.Writing.{Mine}
-use Rattle.step.proofs.Holding.{Held}
 use Rattle.step.proofs.Slices.{Read, read-twice}
 
 module _ (S R : Kind) (sees : Value S → List ℕ → Value R) where
@@ -80,14 +80,14 @@ module _ (S R : Kind) (sees : Value S → List ℕ → Value R) where
 
         -- what is had at entry
         abbrev pub had : List (Item 𝓤)
-        had = ‵ (Held S κ₀ x) ∷ ‵ (flft κ₀ q₀) ∷ ‵ (Read w8 κ₁ f) ∷ ‵ (flft κ₁ q₁) ∷ []
+        had = ‵ (shared S κ₀ x) ∷ ‵ (flft κ₀ q₀) ∷ ‵ (Read w8 κ₁ f) ∷ ‵ (flft κ₁ q₁) ∷ []
 
         begins : Given 𝓤 H A → ent 𝓤 (onEntry 𝓤 H A signature (κ₀, (κ₁, tt)) (q₀, (q₁, tt)) args (ptr-vals x, (slice-vals f, tt))) (⋆ 𝓤 H A had)
         begins W =
             qed W ((‵ (flft κ₀ q₀) ⊛ (‵ (flft κ₁ q₁) ⊛ ‵ ftrue)) ∷ ‵ (owns (ShrRef (named 0) κ₀ (row S) ∷ ShrSlice (named 1) κ₁ u8 ∷ []) args (ptr-vals x, (slice-vals f, tt))) ∷ []) ∵
             split ! $ move ! (1 ∷ []) $ split ! $ move ! (3 ∷ []) $ fsplit ! $ move ! (1 ∷ []) $ fsplit ! $
             -- [the bytes; nothing; the reference; the bytes' token; nothing; the token]
-            keep ! (2 ∷ 5 ∷ 0 ∷ 3 ∷ []) $ done !
+            move ! (2 ∷ []) $ fsplit3 ! $ keep ! (2 ∷ 7 ∷ 3 ∷ 5 ∷ []) $ done !
 
         pub ends : Given 𝓤 H A → (r : Value R) (v : Val) → Is (row R) r (v ∷ []) → r ≡ sees (x .now) (f .now) → ent 𝓤 (⋆ 𝓤 H A (‵ (flft κ₀ q₀) ∷ ‵ (flft κ₁ q₁) ∷ [])) (End v)
         ends W r v is e =
@@ -101,7 +101,7 @@ module _ (S R : Kind) (sees : Value S → List ℕ → Value R) where
 
         -- what a caller hands over
         abbrev handed : List (Item 𝓤)
-        handed = ‵ (flft κ₀ q₀) ∷ ‵ (Held S κ₀ x) ∷ ‵ (Read w8 κ₁ f) ∷ ‵ (flft κ₁ q₁) ∷ []
+        handed = ‵ (flft κ₀ q₀) ∷ ‵ (ShrRef (named 0) κ₀ (row S) .own x (ptr-vals x)) ∷ ‵ (Read w8 κ₁ f) ∷ ‵ (flft κ₁ q₁) ∷ []
 
         asked : Given 𝓤 H A → ent 𝓤 (⋆ 𝓤 H A handed) (Looks .pre to)
         asked W =

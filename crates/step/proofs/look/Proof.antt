@@ -1,6 +1,6 @@
 -- `step::look` meets its contract: a walk of its MIR, by hand. The frame is read once, and the state by readers, one after another.
 -- The walk is over values of any kind: those of the program are long to compare. Assumes nothing.
-use mathlib.Core.Path.{_≡_, refl, sym, ap, subst, _∙_}
+use mathlib.Core.Path.{_≡_, refl, sym, ap, ap₂, subst, _∙_}
 use Prim.Native.Nat.{ℕ}
 use mathlib.Core.List.{List, [], _∷_}
 use lib.Dec.{T}
@@ -30,24 +30,24 @@ use Rattle.records.proofs.Stated.{stated}
 use Rattle.records.proofs.Steps.{var, sets}
 use Rattle.tables.specs.Things.{noThread}
 use Rattle.sight.specs.Sight.{sightOf}
+use Rattle.lent.proofs.Passing.{calls-on}
 use Rattle.lent.proofs.Plain.{Kind, Value, row, ty, far, word, typed}
 use Rattle.lent.proofs.Reading.{Reader, Reads}
-use Rattle.lent.proofs.StateParts.{state, thread, remembered}
+use Rattle.lent.proofs.StateParts.{state, thread}
 use Rattle.lent.proofs.thread_at.Symbol as thread-def
 use Rattle.lent.proofs.thread_at.Met as thread-thm
-use Rattle.lent.proofs.memory.Symbol as memory-def
-use Rattle.lent.proofs.memory.Met as memory-thm
-use Rattle.step.specs.Act.{askingOf}
-use Rattle.step.proofs.Asking as Ak
-use Rattle.step.proofs.Asking.Laws as Ak′
+use Rattle.act.specs.Act.{askingOf, recallOf}
+use Rattle.act.proofs.Asking as Ak
+use Rattle.act.proofs.Asking.Laws as Ak′
+use Rattle.act.proofs.asking_of.Symbol as asking-def
+use Rattle.act.proofs.asking_of.Met as asking-thm
 use Rattle.step.proofs.Seen as Se
 use Rattle.step.proofs.Seen.Laws as Se′
 use Rattle.step.proofs.StepKinds as kinds
-use Rattle.step.proofs.Holding.{calls-held}
 use Rattle.step.proofs.Looking.{Looks, passed, End, had, ends, meets-by, ended, promise}
 use Rattle.step.proofs.OfBytes.{OfBytes, calls-of-bytes}
-use Rattle.step.proofs.asking_of.Symbol as asking-def
-use Rattle.step.proofs.asking_of.Met as asking-thm
+use Rattle.step.proofs.recall.Symbol as recall-def
+use Rattle.step.proofs.recall.Met as recall-thm
 use Rattle.sight.proofs.sight_of.Symbol as sight-def
 use Rattle.sight.proofs.sight_of.Met as sight-thm
 use Rattle.step.proofs.look as fn
@@ -61,12 +61,12 @@ pub record Look : Type 2 where
   pub request : Kind
   pub sight : Kind
   pub own : Kind
-  pub memory : Kind
+  pub recalled : Kind
   pub seen : Kind
   pub asks : List ℕ → Value asking
   pub sights : Value state → Value thread → Value request → Value sight
   pub owns : Value state → ℕ → Value own
-  pub remembers : Value state → Value memory
+  pub recalls : Value state → Value sight → Value request → Value recalled
   pub asking-name : Sym
   pub thread-of : Value asking → Value thread
   pub row-of : Value asking → ℕ
@@ -75,16 +75,16 @@ pub record Look : Type 2 where
   pub asking-parts : (y : Value asking) → Is (row asking) y (asking .val y ∷ [])
       → Is (row thread) (thread-of y) (thread .val (thread-of y) ∷ []) × (Is (row word) (row-of y) (vint w64 (row-of y) ∷ []) × (Is (row request) (request-of y) (request .val (request-of y) ∷ []) × Unit {0}))
   pub seen-name : Sym
-  pub made : Value sight → Value own → Value memory → Value seen
-  pub made-is : (s : Value sight) (o : Value own) (m : Value memory) → Is (row sight) s (sight .val s ∷ []) → Is (row own) o (own .val o ∷ []) → Is (row memory) m (memory .val m ∷ [])
-      → Is (row seen) (made s o m) (vstruct (vcons (sight .val s) (vcons (own .val o) (vcons (memory .val m) vnil))) ∷ [])
+  pub made : Value sight → Value own → Value recalled → Value seen
+  pub made-is : (s : Value sight) (o : Value own) (m : Value recalled) → Is (row sight) s (sight .val s ∷ []) → Is (row own) o (own .val o ∷ []) → Is (row recalled) m (recalled .val m ∷ [])
+      → Is (row seen) (made s o m) (vstruct (vcons (sight .val s) (vcons (own .val o) (vcons (recalled .val m) vnil))) ∷ [])
 
-module _ (c : Look) (#asking #sight #thread #memory : Name) where
+module _ (c : Look) (#asking #sight #thread #recall : Name) where
   abbrev S : Kind
   S = c .state
 
   abbrev sees : Value S → List ℕ → Value (c .seen)
-  sees h f = c .made (c .sights h (c .thread-of (c .asks f)) (c .request-of (c .asks f))) (c .owns h (c .row-of (c .asks f))) (c .remembers h)
+  sees h f = c .made (c .sights h (c .thread-of (c .asks f)) (c .request-of (c .asks f))) (c .owns h (c .row-of (c .asks f))) (c .recalls h (c .sights h (c .thread-of (c .asks f)) (c .request-of (c .asks f))) (c .request-of (c .asks f)))
 
   -- ---- the readers
   abbrev sights-read : Reader
@@ -93,15 +93,15 @@ module _ (c : Look) (#asking #sight #thread #memory : Name) where
   abbrev own-read : Reader
   own-read = record { from = S; more = word ∷ []; result = c .own; gives = λ κs h a. c .owns h (a .0) }
 
-  abbrev memory-read : Reader
-  memory-read = record { from = S; more = []; result = c .memory; gives = λ κs h a. c .remembers h }
+  abbrev recall-read : Reader
+  recall-read = record { from = S; more = c .sight ∷ c .request ∷ []; result = c .recalled; gives = λ κs h a. c .recalls h (a .0) (a .1 .0) }
 
   -- ---- the function
   abbrev asking-ty : Ty
   asking-ty = tyStruct (c .asking-name) (tcons (ty (row (c .thread))) (tcons (tyInt w64) (tcons (ty (row (c .request))) tnil)))
 
   abbrev seen-ty : Ty
-  seen-ty = tyStruct (c .seen-name) (tcons (ty (row (c .sight))) (tcons (ty (row (c .own))) (tcons (ty (row (c .memory))) tnil)))
+  seen-ty = tyStruct (c .seen-name) (tcons (ty (row (c .sight))) (tcons (ty (row (c .own))) (tcons (ty (row (c .recalled))) tnil)))
 
   abbrev function : Fn
   function =
@@ -111,12 +111,12 @@ module _ (c : Look) (#asking #sight #thread #memory : Name) where
         params = 2;
         locals =
             local seen-ty valueLocal ∷ local (tyRef (named 0) imm (far (row S))) valueLocal ∷ local (sliceTy (tyRef (named 1) imm (tyInt w8))) valueLocal ∷ local asking-ty valueLocal
-            ∷ local (ty (row (c .sight))) valueLocal ∷ local (ty (row (c .own))) valueLocal ∷ local (ty (row (c .memory))) valueLocal ∷ [];
+            ∷ local (ty (row (c .sight))) valueLocal ∷ local (ty (row (c .own))) valueLocal ∷ local (ty (row (c .recalled))) valueLocal ∷ [];
         body =
             seq (call #asking (copy (place 2 []) ∷ []) (place 3 []))
             (seq (call #sight (copy (place 1 []) ∷ copy (place 3 (field 0 ∷ [])) ∷ copy (place 3 (field 2 ∷ [])) ∷ []) (place 4 []))
             (seq (call #thread (copy (place 1 []) ∷ copy (place 3 (field 1 ∷ [])) ∷ []) (place 5 []))
-            (seq (call #memory (copy (place 1 []) ∷ []) (place 6 []))
+            (seq (call #recall (copy (place 1 []) ∷ copy (place 4 []) ∷ copy (place 3 (field 2 ∷ [])) ∷ []) (place 6 []))
             (seq (assign (place 0 []) (aggregate (copy (place 4 []) ∷ copy (place 5 []) ∷ copy (place 6 []) ∷ []))) return))));
       }
 
@@ -130,7 +130,7 @@ module _ (c : Look) (#asking #sight #thread #memory : Name) where
 
     module _ (C : Calls 𝓤 H) (Λ : Loops 𝓤 H) (fm : FmC 𝓤 H (W .laws) C)
         (known-asking : Triple 𝓤 (C #asking) (OfBytes (c .asking) (c .asks) 𝓤 H A)) (known-sight : Triple 𝓤 (C #sight) (Reads sights-read 𝓤 H A))
-        (known-thread : Triple 𝓤 (C #thread) (Reads own-read 𝓤 H A)) (known-memory : Triple 𝓤 (C #memory) (Reads memory-read 𝓤 H A))
+        (known-thread : Triple 𝓤 (C #thread) (Reads own-read 𝓤 H A)) (known-recall : Triple 𝓤 (C #recall) (Reads recall-read 𝓤 H A))
         (κ₀ κ₁ : Lft) (q₀ q₁ : Share) (x : RefT (Value S)) (f : RefT (List ℕ)) (gf : Room u8 (length (f .now))) where
       walk : ent 𝓤 (⋆ 𝓤 H A (had S (c .seen) sees 𝓤 H A κ₀ κ₁ q₀ q₁ x f))
           (WpFn 𝓤 H C Λ function (passed S (c .seen) sees 𝓤 H A κ₀ κ₁ q₀ q₁ x f) (End S (c .seen) sees 𝓤 H A κ₀ κ₁ q₀ q₁ x f))
@@ -142,27 +142,29 @@ module _ (c : Look) (#asking #sight #thread #memory : Name) where
           calls-of-bytes ! fm (c .asking) (c .asks) known-asking κ₁ q₁ f (λ i. and-then ! (var ! 11 refl) (no-more !)) (λ y e is.
           land ! (from ! (stop !)) (init ! 9 refl (asking-typed y is)) $ rewrite ! 9 (λ (v : Val). ‵ (fat fullShare asking-ty l₃ 0 v)) (c .asking-is y) refl $ move ! (1 ∷ 2 ∷ []) $
           -- [the state; its token; the frame's token; _6 3; _5 5; _4 7; _3 9; _2 11; _1 13; _0 15]
-          calls-held ! fm sights-read known-sight κ₀ q₀ x (c .thread-of y, (c .request-of y, tt)) (c .thread .val (c .thread-of y) ∷ [], (c .request .val (c .request-of y) ∷ [], tt))
+          calls-on sights-read κ₀ q₀ x (c .thread-of y, (c .request-of y, tt)) (c .thread .val (c .thread-of y) ∷ [], (c .request .val (c .request-of y) ∷ [], tt))
           (c .asking-parts y is .0, (c .asking-parts y is .1 .1 .0, tt))
-          (λ i j. and-then ! (var ! 13 refl) (and-then ! (load ! (from ! (fld ! refl (stop !))) (look-in ! 9 (sub ! 0 refl (whole !)))) (and-then ! (load ! (from ! (fld ! refl (stop !))) (look-in ! 9 (sub ! 2 refl (whole !)))) (no-more !))))
+          ! fm known-sight (λ i j. and-then ! (var ! 13 refl) (and-then ! (load ! (from ! (fld ! refl (stop !))) (look-in ! 9 (sub ! 0 refl (whole !)))) (and-then ! (load ! (from ! (fld ! refl (stop !))) (look-in ! 9 (sub ! 2 refl (whole !)))) (no-more !))))
           (λ s e₁ is₁. land ! (from ! (stop !)) (init ! 7 refl (typed (c .sight) 𝓤 H A W s (c .sight .val s) is₁)) $
-          calls-held ! fm own-read known-thread κ₀ q₀ x (c .row-of y, tt) (vint w64 (c .row-of y) ∷ [], tt) (c .asking-parts y is .1 .0, tt)
-          (λ i j. and-then ! (var ! 13 refl) (and-then ! (load ! (from ! (fld ! refl (stop !))) (look-in ! 9 (sub ! 1 refl (whole !)))) (no-more !)))
+          calls-on own-read κ₀ q₀ x (c .row-of y, tt) (vint w64 (c .row-of y) ∷ [], tt) (c .asking-parts y is .1 .0, tt)
+          ! fm known-thread (λ i j. and-then ! (var ! 13 refl) (and-then ! (load ! (from ! (fld ! refl (stop !))) (look-in ! 9 (sub ! 1 refl (whole !)))) (no-more !)))
           (λ o e₂ is₂. land ! (from ! (stop !)) (init ! 5 refl (typed (c .own) 𝓤 H A W o (c .own .val o) is₂)) $
-          calls-held ! fm memory-read known-memory κ₀ q₀ x tt tt tt (λ i j. and-then ! (var ! 13 refl) (no-more !))
-          (λ m e₃ is₃. land ! (from ! (stop !)) (init ! 3 refl (typed (c .memory) 𝓤 H A W m (c .memory .val m) is₃)) $
+          calls-on recall-read κ₀ q₀ x (s, (c .request-of y, tt)) (c .sight .val s ∷ [], (c .request .val (c .request-of y) ∷ [], tt)) (is₁, (c .asking-parts y is .1 .1 .0, tt))
+          ! fm known-recall (λ i j. and-then ! (var ! 13 refl) (and-then ! (var ! 7 refl) (and-then ! (load ! (from ! (fld ! refl (stop !))) (look-in ! 9 (sub ! 2 refl (whole !)))) (no-more !))))
+          (λ m e₃ is₃. land ! (from ! (stop !)) (init ! 3 refl (typed (c .recalled) 𝓤 H A W m (c .recalled .val m) is₃)) $
           sets ! (agg ! (and-then ! (var ! 7 refl) (and-then ! (var ! 5 refl) (and-then ! (var ! 3 refl) (no-more !))))) 15 refl
-          (as-fields (ty (row (c .sight)) ∷ ty (row (c .own)) ∷ ty (row (c .memory)) ∷ []) (c .sight .val s ∷ c .own .val o ∷ c .memory .val m ∷ [])
-          (typed (c .sight) 𝓤 H A W s _ is₁, (typed (c .own) 𝓤 H A W o _ is₂, (typed (c .memory) 𝓤 H A W m _ is₃, tt)))) $
+          (as-fields (ty (row (c .sight)) ∷ ty (row (c .own)) ∷ ty (row (c .recalled)) ∷ []) (c .sight .val s ∷ c .own .val o ∷ c .recalled .val m ∷ [])
+          (typed (c .sight) 𝓤 H A W s _ is₁, (typed (c .own) 𝓤 H A W o _ is₂, (typed (c .recalled) 𝓤 H A W m _ is₃, tt)))) $
           returns ! (look ! 15 refl) $ forget ! 3 refl $ forget ! 5 refl $ forget ! 7 refl $ forget ! 9 refl $ forget ! 11 refl $ forget ! 13 refl $ forget ! 15 refl $
           move ! (15 ∷ 16 ∷ 13 ∷ 14 ∷ 11 ∷ 12 ∷ 9 ∷ 10 ∷ 7 ∷ 8 ∷ 5 ∷ 6 ∷ 3 ∷ 4 ∷ []) $ free1 ! $ free1 ! $ free1 ! $ free1 ! $ free1 ! $ free1 ! $ free1 ! $ free0 ! $ drop ! $
           by ! (ends S (c .seen) sees 𝓤 H A κ₀ κ₁ q₀ q₁ x f W (c .made s o m) _ (c .made-is s o m is₁ is₂ is₃)
-          (λ i. c .made ((e₁ ∙ ap (λ (u : Value (c .asking)). c .sights (x .now) (c .thread-of u) (c .request-of u)) e) i) ((e₂ ∙ ap (λ (u : Value (c .asking)). c .owns (x .now) (c .row-of u)) e) i) (e₃ i))))))))))))))
+          (λ i. let e₁′ = e₁ ∙ ap (λ (u : Value (c .asking)). c .sights (x .now) (c .thread-of u) (c .request-of u)) e in
+          c .made (e₁′ i) ((e₂ ∙ ap (λ (u : Value (c .asking)). c .owns (x .now) (c .row-of u)) e) i) ((e₃ ∙ ap₂ (λ (v : Value (c .sight)) (u : Value (c .asking)). c .recalls (x .now) v (c .request-of u)) e₁′ e) i))))))))))))))
 
   look-meets : {M : Type 1} (𝓤 : URA M) (H : Heap 𝓤) (A : Atoms 𝓤) → Given 𝓤 H A → (𝓣 : Tables 𝓤 H) → Triple 𝓤 (𝓣 .C #asking) (OfBytes (c .asking) (c .asks) 𝓤 H A) → Triple 𝓤 (𝓣 .C #sight) (Reads sights-read 𝓤 H A)
-      → Triple 𝓤 (𝓣 .C #thread) (Reads own-read 𝓤 H A) → Triple 𝓤 (𝓣 .C #memory) (Reads memory-read 𝓤 H A) → Triple 𝓤 (WpFn 𝓤 H (𝓣 .C) (𝓣 .Λ) function) (Looks S (c .seen) sees 𝓤 H A)
-  look-meets 𝓤 H A W 𝓣 known-asking known-sight known-thread known-memory =
-      meets-by S (c .seen) sees 𝓤 H A W function 𝓣 (walk 𝓤 H A W (𝓣 .C) (𝓣 .Λ) (fmOf 𝓤 H (W .laws) 𝓣) known-asking known-sight known-thread known-memory)
+      → Triple 𝓤 (𝓣 .C #thread) (Reads own-read 𝓤 H A) → Triple 𝓤 (𝓣 .C #recall) (Reads recall-read 𝓤 H A) → Triple 𝓤 (WpFn 𝓤 H (𝓣 .C) (𝓣 .Λ) function) (Looks S (c .seen) sees 𝓤 H A)
+  look-meets 𝓤 H A W 𝓣 known-asking known-sight known-thread known-recall =
+      meets-by S (c .seen) sees 𝓤 H A W function 𝓣 (walk 𝓤 H A W (𝓣 .C) (𝓣 .Λ) (fmOf 𝓤 H (W .laws) 𝓣) known-asking known-sight known-thread known-recall)
 
 -- ---- those of the program
 
@@ -174,12 +176,12 @@ looks = record {
   request = kinds.request;
   sight = kinds.sight;
   own = thread;
-  memory = remembered;
+  recalled = kinds.recalled;
   seen = kinds.seen;
   asks = askingOf;
   sights = λ h n r. sightOf (h .tables) n r;
   owns = λ h n. getD (h .tables .threads) n noThread;
-  remembers = λ h. h .memory;
+  recalls = λ h s r. recallOf (h .memory) s r;
   asking-name = Ak.the-type .name;
   thread-of = λ y. y .thread;
   row-of = λ y. y .row;
@@ -187,18 +189,18 @@ looks = record {
   asking-is = λ y. refl;
   asking-parts = λ y is. LL.owed Ak.the-type Ak′.the-laws y (kinds.asking .val y ∷ []) is;
   seen-name = Se.the-type .name;
-  made = λ s o m. record { sight = s; own = o; memory = m };
-  made-is = λ s o m is₁ is₂ is₃. LL.owes Se.the-type Se′.the-laws (record { sight = s; own = o; memory = m }) (is₁, (is₂, (is₃, tt)));
+  made = λ s o m. record { sight = s; own = o; recalled = m };
+  made-is = λ s o m is₁ is₂ is₃. LL.owes Se.the-type Se′.the-laws (record { sight = s; own = o; recalled = m }) (is₁, (is₂, (is₃, tt)));
 }
 
 pub look-spec : {M : Type 1} → fn.Statement.statement M
 unfolding code.routine tablesOf
 look-spec 𝓤 H 𝓜 𝓖 𝓡 =
-    let gives = sees looks asking-def.name sight-def.name thread-def.name memory-def.name in
+    let gives = sees looks asking-def.name sight-def.name thread-def.name recall-def.name in
     stated 𝓤 H 𝓜 𝓖 𝓡 (ended state kinds.seen gives) (promise state kinds.seen gives 𝓤) (λ κs a. fn.clauses 𝓤 H (𝓖 .A) (𝓜 .mem) (𝓡 .run) κs a .ensures tt) (λ κs a r e X is. is)
     code.env fn.Key.name code.function (code.unfolded 𝓤 H 𝓜 𝓡)
-    (look-meets looks asking-def.name sight-def.name thread-def.name memory-def.name 𝓤 H (𝓖 .A) (givenOf 𝓤 H 𝓜 𝓖) (tablesOf 𝓤 H 𝓜 (tables 𝓤 H 𝓜 𝓡 code.env))
-    (cited 𝓤 H (OfBytes kinds.asking askingOf 𝓤 H (𝓖 .A)) 𝓜 𝓡 code.env asking-def.name asking-def.routine code.calls-step·asking-of (asking-thm.met 𝓤 H 𝓜 𝓖 𝓡))
-    (cited 𝓤 H (Reads (sights-read looks asking-def.name sight-def.name thread-def.name memory-def.name) 𝓤 H (𝓖 .A)) 𝓜 𝓡 code.env sight-def.name sight-def.routine code.calls-sight·sight-of (sight-thm.met 𝓤 H 𝓜 𝓖 𝓡))
-    (cited 𝓤 H (Reads (own-read looks asking-def.name sight-def.name thread-def.name memory-def.name) 𝓤 H (𝓖 .A)) 𝓜 𝓡 code.env thread-def.name thread-def.routine code.calls-lent·thread-at (thread-thm.met 𝓤 H 𝓜 𝓖 𝓡))
-    (cited 𝓤 H (Reads (memory-read looks asking-def.name sight-def.name thread-def.name memory-def.name) 𝓤 H (𝓖 .A)) 𝓜 𝓡 code.env memory-def.name memory-def.routine code.calls-lent·memory (memory-thm.met 𝓤 H 𝓜 𝓖 𝓡)))
+    (look-meets looks asking-def.name sight-def.name thread-def.name recall-def.name 𝓤 H (𝓖 .A) (givenOf 𝓤 H 𝓜 𝓖) (tablesOf 𝓤 H 𝓜 (tables 𝓤 H 𝓜 𝓡 code.env))
+    (cited 𝓤 H (OfBytes kinds.asking askingOf 𝓤 H (𝓖 .A)) 𝓜 𝓡 code.env asking-def.name asking-def.routine code.calls-act·asking-of (asking-thm.met 𝓤 H 𝓜 𝓖 𝓡))
+    (cited 𝓤 H (Reads (sights-read looks asking-def.name sight-def.name thread-def.name recall-def.name) 𝓤 H (𝓖 .A)) 𝓜 𝓡 code.env sight-def.name sight-def.routine code.calls-sight·sight-of (sight-thm.met 𝓤 H 𝓜 𝓖 𝓡))
+    (cited 𝓤 H (Reads (own-read looks asking-def.name sight-def.name thread-def.name recall-def.name) 𝓤 H (𝓖 .A)) 𝓜 𝓡 code.env thread-def.name thread-def.routine code.calls-lent·thread-at (thread-thm.met 𝓤 H 𝓜 𝓖 𝓡))
+    (cited 𝓤 H (Reads (recall-read looks asking-def.name sight-def.name thread-def.name recall-def.name) 𝓤 H (𝓖 .A)) 𝓜 𝓡 code.env recall-def.name recall-def.routine code.calls-step·recall (recall-thm.met 𝓤 H 𝓜 𝓖 𝓡)))

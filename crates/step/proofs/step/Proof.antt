@@ -29,6 +29,7 @@ use denote.Ref.{RefT, MutRef, now, at-last, ptr-vals, mut-tells}
 use denote.Signature.{Signature, plain, mutRefTo, shrSliceOf, mutSliceOf}
 use denote.Slice.{sliceTy, sliceVal, slice-vals, MutSlice, ShrSlice, Room, finally, mut-slice-tells, shr-slice-tells}
 use denote.Steps.{nothing, owned}
+use denote.Struct.Field.{u32-field}
 use denote.Struct.Laws as LL
 use denote.Struct.Struct.{as-fields}
 use denote.Triple.Clauses as Clauses
@@ -45,10 +46,13 @@ use Rattle.lent.proofs.Writing.{Writer, Writes, Mine, opens, closes}
 use Rattle.step.proofs.Acting.{Act, Acts, Buffer, calls-act}
 use Rattle.step.proofs.Looking.{Looks, calls-look}
 use Rattle.step.proofs.Slices.{Read}
-use Rattle.numbers.specs.Numbers.{mostThreads, mostTags, mostObjects}
-use Rattle.memory.specs.Remembered.{Fits}
-use Rattle.answers.specs.Answers.{answerBytes, front}
+use Rattle.numbers.specs.Numbers.{mostThreads, mostTags, mostObjects, mostRemembered}
+use Rattle.memory.specs.Notes.{noted}
+use Rattle.memory.proofs.Memory as Me
+use Rattle.memory.proofs.Memory.Laws as Me′
+use Rattle.answers.specs.Answers.{statusOf, answerBytes, front}
 use Rattle.rules.specs.Tested.{holdButTruth}
+use Rattle.outcomes.specs.declared.Outcome.{Outcome}
 use Rattle.apply.specs.Apply.{applyStore}
 use Rattle.apply.specs.Writes.{written}
 use Rattle.state.specs.declared.State.{State}
@@ -59,22 +63,23 @@ use Rattle.tables.proofs.Tables.Laws as Tb′
 use Rattle.tables.proofs.rows.ThreadRow as Th
 use Rattle.tables.proofs.rows.TagRow as Tg
 use Rattle.tables.proofs.rows.ObjectRow as Ob
-use Rattle.lent.proofs.StateParts.{state, thread, remembered}
-use Rattle.step.specs.World.{HasRoom}
-use Rattle.step.specs.Step.{consideredBy, stepped, stepOf}
-use Rattle.step.specs.Act.{countsIn, acted, seenOf}
-use Rattle.step.proofs.Acted as Ac
-use Rattle.step.proofs.Acted.Laws as Ac′
+use Rattle.lent.proofs.StateParts.{state, thread}
+use Rattle.act.specs.World.{HasRoom}
+use Rattle.act.specs.Step.{stepped}
+use Rattle.act.specs.Act.{weighedBy, countsIn, acted}
+use Rattle.act.proofs.Stepping as Stepping
+use Rattle.step.specs.Look.{seenOf, stepOf}
+use Rattle.act.proofs.Acted as Ac
+use Rattle.act.proofs.Acted.Laws as Ac′
 use Rattle.step.proofs.Seen as Se
 use Rattle.step.proofs.Seen.Laws as Se′
 use Rattle.step.proofs.Stepped as St
 use Rattle.step.proofs.Stepped.Laws as St′
 use Rattle.step.proofs.StepKinds as kinds
-use Rattle.step.proofs.Stepping as Stepping
 use Rattle.step.proofs.look.Symbol as look-def
 use Rattle.step.proofs.look.Met as look-thm
-use Rattle.step.proofs.act.Symbol as act-def
-use Rattle.step.proofs.act.Met as act-thm
+use Rattle.act.proofs.act.Symbol as act-def
+use Rattle.act.proofs.act.Met as act-thm
 use Rattle.step.proofs.write_all.Symbol as write-def
 use Rattle.step.proofs.write_all.Met as write-thm
 use Rattle.step.proofs.step as fn
@@ -89,10 +94,11 @@ pub record Steps : Type 2 where
   pub seen : Kind
   pub act : Act
   pub writes : Kind
+  pub note : Kind
   pub change : Kind
   pub result : Kind
   pub sees : Value state → List ℕ → Value seen
-  pub becomes : Value state → Value writes → Value (act .memory) → Value state
+  pub becomes : Value state → Value writes → Value note → Value state
   -- what is asked of the state, the lists, the store, the frame and the answer buffer, and what is given and left
   pub Asks : Value state → List ℕ → List ℕ → List ℕ → List ℕ → List ℕ → Type 0
   pub gives : Value state → List ℕ → List ℕ → List ℕ → List ℕ → List ℕ → Value result
@@ -113,12 +119,12 @@ pub record Steps : Type 2 where
   pub links : Value (act .result) → Value change
   pub grants : Value (act .result) → Value change
   pub to-write : Value (act .result) → Value writes
-  pub after : Value (act .result) → Value (act .memory)
+  pub to-note : Value (act .result) → Value note
   pub acted-is : (z : Value (act .result)) → act .result .val z ≡ vstruct (vcons (vint w8 (status z)) (vcons (vint w64 (written z)) (vcons (change .val (links z)) (vcons (change .val (grants z))
-      (vcons (writes .val (to-write z)) (vcons (act .memory .val (after z)) vnil))))))
+      (vcons (writes .val (to-write z)) (vcons (note .val (to-note z)) vnil))))))
   pub acted-parts : (z : Value (act .result)) → Is (row (act .result)) z (act .result .val z ∷ [])
       → Is (row (number w8)) (status z) (vint w8 (status z) ∷ []) × (Is (row word) (written z) (vint w64 (written z) ∷ []) × (Is (row change) (links z) (change .val (links z) ∷ [])
-      × (Is (row change) (grants z) (change .val (grants z) ∷ []) × (Is (row writes) (to-write z) (writes .val (to-write z) ∷ []) × (Is (row (act .memory)) (after z) (act .memory .val (after z) ∷ []) × Unit {0})))))
+      × (Is (row change) (grants z) (change .val (grants z) ∷ []) × (Is (row writes) (to-write z) (writes .val (to-write z) ∷ []) × (Is (row note) (to-note z) (note .val (to-note z) ∷ []) × Unit {0})))))
   pub result-name : Sym
   pub made : Value (act .result) → Value result
   pub made-is : (z : Value (act .result)) → Is (row (number w8)) (status z) (vint w8 (status z) ∷ []) → Is (row word) (written z) (vint w64 (written z) ∷ []) → Is (row change) (links z) (change .val (links z) ∷ [])
@@ -136,7 +142,7 @@ module _ (c : Steps) (h : Value (c .state)) (l g b f a : List ℕ) where
   pub record Laws : Type 0 where
     pub asks : c .act .Asks (c .sight seen-at) (c .own seen-at) (c .memory seen-at) l g b f a
     pub gives : c .made acted-at ≡ c .gives h l g b f a
-    pub leaves : c .becomes h (c .to-write acted-at) (c .after acted-at) ≡ c .leaves h l g b f a
+    pub leaves : c .becomes h (c .to-write acted-at) (c .to-note acted-at) ≡ c .leaves h l g b f a
     pub stores : c .act .stores (c .sight seen-at) (c .own seen-at) (c .memory seen-at) l g b f a ≡ c .stores h l g b f a
     pub answers : c .act .answers (c .sight seen-at) (c .own seen-at) (c .memory seen-at) l g b f a ≡ c .answers h l g b f a
 
@@ -192,13 +198,13 @@ module _ (c : Steps) (#look #act #write : Name)
 
   -- ---- the function
   abbrev writer : Writer
-  writer = record { on = S; more = c .writes ∷ c .act .memory ∷ []; becomes = λ κs h x. c .becomes h (x .0) (x .1 .0) }
+  writer = record { on = S; more = c .writes ∷ c .note ∷ []; becomes = λ κs h x. c .becomes h (x .0) (x .1 .0) }
 
   abbrev seen-ty : Ty
   seen-ty = tyStruct (c .seen-name) (tcons (ty (row (c .act .sight))) (tcons (ty (row (c .act .own))) (tcons (ty (row (c .act .memory))) tnil)))
 
   abbrev acted-ty : Ty
-  acted-ty = tyStruct (c .acted-name) (tcons (tyInt w8) (tcons (tyInt w64) (tcons (ty (row (c .change))) (tcons (ty (row (c .change))) (tcons (ty (row (c .writes))) (tcons (ty (row (c .act .memory))) tnil))))))
+  acted-ty = tyStruct (c .acted-name) (tcons (tyInt w8) (tcons (tyInt w64) (tcons (ty (row (c .change))) (tcons (ty (row (c .change))) (tcons (ty (row (c .writes))) (tcons (ty (row (c .note))) tnil))))))
 
   abbrev result-ty : Ty
   result-ty = tyStruct (c .result-name) (tcons (tyInt w8) (tcons (tyInt w64) (tcons (ty (row (c .change))) (tcons (ty (row (c .change))) tnil))))
@@ -302,8 +308,8 @@ module _ (c : Steps) (#look #act #write : Name)
     acted-typed z is =
         let p = c .acted-parts z is in
         subst (λ (v : Val). T (hasTy acted-ty v) × WT v) (sym (c .acted-is z))
-        (as-fields (tyInt w8 ∷ tyInt w64 ∷ ty (row (c .change)) ∷ ty (row (c .change)) ∷ ty (row (c .writes)) ∷ ty (row (c .act .memory)) ∷ [])
-        (vint w8 (c .status z) ∷ vint w64 (c .written z) ∷ c .change .val (c .links z) ∷ c .change .val (c .grants z) ∷ c .writes .val (c .to-write z) ∷ c .act .memory .val (c .after z) ∷ []) (
+        (as-fields (tyInt w8 ∷ tyInt w64 ∷ ty (row (c .change)) ∷ ty (row (c .change)) ∷ ty (row (c .writes)) ∷ ty (row (c .note)) ∷ [])
+        (vint w8 (c .status z) ∷ vint w64 (c .written z) ∷ c .change .val (c .links z) ∷ c .change .val (c .grants z) ∷ c .writes .val (c .to-write z) ∷ c .note .val (c .to-note z) ∷ []) (
           typed (number w8) 𝓤 H A W (c .status z) _ (p .0),
           (
             typed word 𝓤 H A W (c .written z) _ (p .1 .0),
@@ -311,7 +317,7 @@ module _ (c : Steps) (#look #act #write : Name)
               typed (c .change) 𝓤 H A W (c .links z) _ (p .1 .1 .0),
               (
                 typed (c .change) 𝓤 H A W (c .grants z) _ (p .1 .1 .1 .0),
-                (typed (c .writes) 𝓤 H A W (c .to-write z) _ (p .1 .1 .1 .1 .0), (typed (c .act .memory) 𝓤 H A W (c .after z) _ (p .1 .1 .1 .1 .1 .0), tt)),
+                (typed (c .writes) 𝓤 H A W (c .to-write z) _ (p .1 .1 .1 .1 .0), (typed (c .note) 𝓤 H A W (c .to-note z) _ (p .1 .1 .1 .1 .1 .0), tt)),
               ),
             ),
           ),
@@ -357,7 +363,7 @@ module _ (c : Steps) (#look #act #write : Name)
           land ! (from ! (stop !)) (init ! 23 refl (acted-typed z is′)) $ rewrite ! 23 (λ (v : Val). ‵ (fat fullShare acted-ty l₈ 0 v)) (c .acted-is z) refl $ move ! (7 ∷ 8 ∷ []) $
           -- [the state; its token; what `act` left 2 .. 8; _15 9; _14 11; _13 13; _12 15; _11 17; _10 19; _9 21; _8 23; _7 25; _6 27; _5 29; _4 31; _3 33; _2 35; _1 37; _0 39]
           sets ! (addr ! (from ! (hop ! (look ! 37 refl) (stop !)))) 9 refl (tt, tt) $
-          calls-writer writer (λ κs′. (c .to-write z, (c .after z, tt))) (λ κs′. (c .writes .val (c .to-write z) ∷ [], (c .act .memory .val (c .after z) ∷ [], tt)))
+          calls-writer writer (λ κs′. (c .to-write z, (c .to-note z, tt))) (λ κs′. (c .writes .val (c .to-write z) ∷ [], (c .note .val (c .to-note z) ∷ [], tt)))
           (λ κs′. (c .acted-parts z is′ .1 .1 .1 .1 .0, (c .acted-parts z is′ .1 .1 .1 .1 .1 .0, tt))) κ₀ q₀ x ! fm known-write
           (λ κs′ i j. and-then ! (var ! 9 refl) (and-then ! (load ! (from ! (fld ! refl (stop !))) (look-in ! 23 (sub ! 4 refl (whole !)))) (and-then ! (load ! (from ! (fld ! refl (stop !))) (look-in ! 23 (sub ! 5 refl (whole !)))) (no-more !))))
           (λ κs′ h e₄. land ! (from ! (stop !)) (init ! 11 refl (tt, tt)) $
@@ -369,7 +375,7 @@ module _ (c : Steps) (#look #act #write : Name)
           free1 ! $ free1 ! $ free1 ! $ free1 ! $ free1 ! $ free1 ! $ free1 ! $ free1 ! $ free1 ! $ free1 ! $ free1 ! $ free1 ! $ free1 ! $ free1 ! $ free1 ! $ free1 ! $ free0 ! $
           let e₅ : z ≡ acted-at c (x .now) (xl .now) (xg .now) (xb .now) (xf .now) (xa .now) = e₁ ∙ ap (λ (u : Value (c .seen)). c .act .gives (c .sight u) (c .own u) (c .memory u) (xl .now) (xg .now) (xb .now) (xf .now) (xa .now)) e in
           by ! (exits h b a (c .made z) _ (c .made-is z (c .acted-parts z is′ .0) (c .acted-parts z is′ .1 .0) (c .acted-parts z is′ .1 .1 .0) (c .acted-parts z is′ .1 .1 .1 .0)) lb la
-          (ap (c .made) e₅ ∙ law .gives) (e₄ ∙ ap (λ (u : Value (c .act .result)). c .becomes (x .now) (c .to-write u) (c .after u)) e₅ ∙ law .leaves)
+          (ap (c .made) e₅ ∙ law .gives) (e₄ ∙ ap (λ (u : Value (c .act .result)). c .becomes (x .now) (c .to-write u) (c .to-note u)) e₅ ∙ law .leaves)
           (e₂ ∙ ap (λ (u : Value (c .seen)). c .act .stores (c .sight u) (c .own u) (c .memory u) (xl .now) (xg .now) (xb .now) (xf .now) (xa .now)) e ∙ law .stores)
           (e₃ ∙ ap (λ (u : Value (c .seen)). c .act .answers (c .sight u) (c .own u) (c .memory u) (xl .now) (xg .now) (xb .now) (xf .now) (xa .now)) e ∙ law .answers))))))))))))))))))))))
 
@@ -421,16 +427,19 @@ module _ (h : State) (is : Is (row state) h (state .val h ∷ [])) where
   objects-fit : length (h .tables .objects) ≡ mostObjects
   objects-fit = sym (length-map (h .tables .objects) (Ob.the-field .into)) ∙ LL.owed Tb.the-type Tb′.the-laws (h .tables) _ tables-are .1 .1 .1 .1 .1 .1 .0 .1 .0 .1
 
+  pairs-fit : length (h .memory .pairs) ≡ mostRemembered
+  pairs-fit = sym (length-map (h .memory .pairs) (u32-field .into)) ∙ LL.owed Me.the-type Me′.the-laws (h .memory) _ (LL.owed Sa.the-type Sa′.the-laws h (state .val h ∷ []) is .1 .0) .1 .1 .0 .1 .0 .1
+
 abbrev acting : Act
 acting = record {
   sight = kinds.sight;
   own = thread;
-  memory = remembered;
+  memory = kinds.recalled;
   result = kinds.acted;
-  Asks = λ s o m l g b f a. Fits m × (HasRoom (countsIn s) o b f (consideredBy s l g f m .outcome) × (34 ≤ length a));
+  Asks = λ s o m l g b f a. (m .tally .size ≤ mostRemembered) × (HasRoom (countsIn s) o b f (weighedBy s l g m f .outcome) × (34 ≤ length a));
   gives = λ s o m l g b f a. acted s o m l g b f;
-  stores = λ s o m l g b f a. applyStore (consideredBy s l g f m .outcome .store) f b;
-  answers = λ s o m l g b f a. front (answerBytes f b (consideredBy s l g f m .outcome .answer)) a;
+  stores = λ s o m l g b f a. applyStore (weighedBy s l g m f .outcome .store) f b;
+  answers = λ s o m l g b f a. front (answerBytes f b (weighedBy s l g m f .outcome .answer)) a;
 }
 
 abbrev stepping : Steps
@@ -439,10 +448,11 @@ stepping = record {
   seen = kinds.seen;
   act = acting;
   writes = kinds.writes;
+  note = kinds.note;
   change = kinds.change;
   result = kinds.stepped;
   sees = seenOf;
-  becomes = λ h w m. record { tables = written (h .tables) w; memory = m };
+  becomes = λ h w n. record { tables = written (h .tables) w; memory = noted (h .memory) n };
   Asks = λ h l g b f a. (holdButTruth (h .tables) (h .memory) l g b ≡ true) × (34 ≤ length a);
   gives = stepOf;
   leaves = λ h l g b f a. stepped h l g b f a .replied .state;
@@ -451,7 +461,7 @@ stepping = record {
   seen-name = Se.the-type .name;
   sight = λ y. y .sight;
   own = λ y. y .own;
-  memory = λ y. y .memory;
+  memory = λ y. y .recalled;
   seen-is = λ y. refl;
   seen-parts = λ y is. LL.owed Se.the-type Se′.the-laws y (kinds.seen .val y ∷ []) is;
   acted-name = Ac.the-type .name;
@@ -460,7 +470,7 @@ stepping = record {
   links = λ z. z .links;
   grants = λ z. z .grants;
   to-write = λ z. z .writes;
-  after = λ z. z .memory;
+  to-note = λ z. z .note;
   acted-is = λ z. refl;
   acted-parts = λ z is. LL.owed Ac.the-type Ac′.the-laws z (kinds.acted .val z ∷ []) is;
   result-name = St.the-type .name;
@@ -469,16 +479,18 @@ stepping = record {
 }
 
 step-laws : (h : State) (l g b f a : List ℕ) → Is (row state) h (state .val h ∷ []) → stepping .Asks h l g b f a → Laws stepping h l g b f a
-step-laws h l g b f a is asks = record {
-  asks = (
-    Stepping.fits h l g b f (asks .0) (threads-fit h is) (kinds-fit h is) (objects-fit h is),
-    (Stepping.room h l g b f (asks .0) (threads-fit h is) (kinds-fit h is) (objects-fit h is), asks .1),
-  );
-  gives = refl;
-  leaves = Stepping.leaves h l g b f (asks .0) (threads-fit h is) (kinds-fit h is) (objects-fit h is) a;
-  stores = refl;
-  answers = refl;
-}
+step-laws h l g b f a is asks =
+    let same = Stepping.same-outcome h l g b f (asks .0) (threads-fit h is) (kinds-fit h is) (objects-fit h is) (pairs-fit h is) in
+    record {
+      asks = (
+        Stepping.fits h l g b f (asks .0) (threads-fit h is) (kinds-fit h is) (objects-fit h is) (pairs-fit h is) .small,
+        (Stepping.room h l g b f (asks .0) (threads-fit h is) (kinds-fit h is) (objects-fit h is) (pairs-fit h is), asks .1),
+      );
+      gives = ap (λ (o : Outcome). record { status = statusOf (o .answer); written = length (answerBytes f b (o .answer)); links = o .links; grants = o .grants }) same;
+      leaves = Stepping.leaves h l g b f (asks .0) (threads-fit h is) (kinds-fit h is) (objects-fit h is) (pairs-fit h is) a;
+      stores = ap (λ (o : Outcome). applyStore (o .store) f b) same;
+      answers = ap (λ (o : Outcome). front (answerBytes f b (o .answer)) a) same;
+    }
 
 pub step-spec : {M : Type 1} → fn.Statement.statement M
 unfolding code.routine tablesOf
@@ -487,5 +499,5 @@ step-spec 𝓤 H 𝓜 𝓖 𝓡 =
     (tables 𝓤 H 𝓜 𝓡 code.env .C) (tables 𝓤 H 𝓜 𝓡 code.env .Λ) fn.Key.name code.function (code.unfolded 𝓤 H 𝓜 𝓡)
     (steps-meets stepping look-def.name act-def.name write-def.name step-laws 𝓤 H (𝓖 .A) (givenOf 𝓤 H 𝓜 𝓖) (tablesOf 𝓤 H 𝓜 (tables 𝓤 H 𝓜 𝓡 code.env))
     (cited 𝓤 H (Looks state kinds.seen seenOf 𝓤 H (𝓖 .A)) 𝓜 𝓡 code.env look-def.name look-def.routine code.calls-step·look (look-thm.met 𝓤 H 𝓜 𝓖 𝓡))
-    (cited 𝓤 H (Acts acting 𝓤 H (𝓖 .A)) 𝓜 𝓡 code.env act-def.name act-def.routine code.calls-step·act (act-thm.met 𝓤 H 𝓜 𝓖 𝓡))
+    (cited 𝓤 H (Acts acting 𝓤 H (𝓖 .A)) 𝓜 𝓡 code.env act-def.name act-def.routine code.calls-act·act (act-thm.met 𝓤 H 𝓜 𝓖 𝓡))
     (cited 𝓤 H (Writes (writer stepping look-def.name act-def.name write-def.name step-laws) 𝓤 H (𝓖 .A)) 𝓜 𝓡 code.env write-def.name write-def.routine code.calls-step·write-all (write-thm.met 𝓤 H 𝓜 𝓖 𝓡)))

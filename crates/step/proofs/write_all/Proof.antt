@@ -32,8 +32,7 @@ use Rattle.lent.proofs.Counting.{counts, recounting}
 use Rattle.lent.proofs.Plain.{Kind, Value, row, ty, far, word, typed}
 use Rattle.lent.proofs.RowPut.{row-put}
 use Rattle.lent.proofs.StateParts as of-state
-use Rattle.lent.proofs.StateParts.{state, remembered, thread, tag, object}
-use Rattle.lent.proofs.Storing.{stores}
+use Rattle.lent.proofs.StateParts.{state, thread, tag, object}
 use Rattle.lent.proofs.Writing.{Writer, Writes, Mine, passed, End, ends, meets-by, ended, promise}
 use Rattle.lent.proofs.put_thread.Symbol as thread-def
 use Rattle.lent.proofs.put_thread.Met as thread-thm
@@ -43,8 +42,9 @@ use Rattle.lent.proofs.put_object.Symbol as object-def
 use Rattle.lent.proofs.put_object.Met as object-thm
 use Rattle.lent.proofs.put_counts.Symbol as counts-def
 use Rattle.lent.proofs.put_counts.Met as counts-thm
-use Rattle.lent.proofs.put_memory.Symbol as memory-def
-use Rattle.lent.proofs.put_memory.Met as memory-thm
+use Rattle.lent.proofs.note.Symbol as note-def
+use Rattle.lent.proofs.note.Met as note-thm
+use Rattle.lent.specs.Lent.{notePut}
 use Rattle.apply.proofs.rows.Writes as Wr
 use Rattle.apply.proofs.rows.Writes.Laws as Wr′
 use Rattle.step.proofs.StepKinds as kinds
@@ -67,7 +67,7 @@ pub record Written (W R₁ R₂ R₃ C : Kind) : Type 2 where
       × (Is (row word) (n₃ w) (vint w64 (n₃ w) ∷ []) × (Is (row R₃) (r₃ w) (R₃ .val (r₃ w) ∷ []) × (Is (row C) (c w) (C .val (c w) ∷ []) × Unit {0}))))))
 
 module _ (S W R₁ R₂ R₃ C P : Kind) (u : Written W R₁ R₂ R₃ C) (put₁ : Value S → ℕ → Value R₁ → Value S) (put₂ : Value S → ℕ → Value R₂ → Value S) (put₃ : Value S → ℕ → Value R₃ → Value S)
-    (put₄ : Value S → Value C → Value S) (put₅ : Value S → Value P → Value S) (#thread #tag #object #counts #memory : Name) where
+    (put₄ : Value S → Value C → Value S) (put₅ : Value S → Value P → Value S) (#thread #tag #object #counts #note : Name) where
   -- ---- the writers
   abbrev puts-row : (R : Kind) → (Value S → ℕ → Value R → Value S) → Writer
   puts-row R f = record { on = S; more = word ∷ R ∷ []; becomes = λ κs h a. f h (a .0) (a .1 .0) }
@@ -108,12 +108,12 @@ module _ (S W R₁ R₂ R₃ C P : Kind) (u : Written W R₁ R₂ R₃ C) (put�
             (seq (assign (place 8 []) (addrOf (place 1 (deref (ty (row S)) ∷ []))))
             (seq (call #counts (copy (place 8 []) ∷ copy (place 2 (field 6 ∷ [])) ∷ []) (place 4 []))
             (seq (assign (place 9 []) (addrOf (place 1 (deref (ty (row S)) ∷ []))))
-            (seq (call #memory (copy (place 9 []) ∷ copy (place 3 []) ∷ []) (place 4 [])) over)))))))));
+            (seq (call #note (copy (place 9 []) ∷ copy (place 3 []) ∷ []) (place 4 [])) over)))))))));
       }
 
   module _ {M : Type 1} (𝓤 : URA M) (H : Heap 𝓤) (A : Atoms 𝓤) (G : Given 𝓤 H A) (F : Calls 𝓤 H) (Λ : Loops 𝓤 H) (fm : FmC 𝓤 H (G .laws) F)
       (known₁ : Triple 𝓤 (F #thread) (Writes (puts-row R₁ put₁) 𝓤 H A)) (known₂ : Triple 𝓤 (F #tag) (Writes (puts-row R₂ put₂) 𝓤 H A)) (known₃ : Triple 𝓤 (F #object) (Writes (puts-row R₃ put₃) 𝓤 H A))
-      (known₄ : Triple 𝓤 (F #counts) (Writes (puts-part C put₄) 𝓤 H A)) (known₅ : Triple 𝓤 (F #memory) (Writes (puts-part P put₅) 𝓤 H A))
+      (known₄ : Triple 𝓤 (F #counts) (Writes (puts-part C put₄) 𝓤 H A)) (known₅ : Triple 𝓤 (F #note) (Writes (puts-part P put₅) 𝓤 H A))
       (κ : Lft) (q : Share) (x : RefT (Value S)) (w : Value W) (m : Value P) (gw : Is (row W) w (W .val w ∷ [])) (gm : Is (row P) m (P .val m ∷ [])) where
     abbrev p : Is (row word) (u .n₁ w) (vint w64 (u .n₁ w) ∷ []) × (Is (row R₁) (u .r₁ w) (R₁ .val (u .r₁ w) ∷ []) × (Is (row word) (u .n₂ w) (vint w64 (u .n₂ w) ∷ [])
         × (Is (row R₂) (u .r₂ w) (R₂ .val (u .r₂ w) ∷ []) × (Is (row word) (u .n₃ w) (vint w64 (u .n₃ w) ∷ []) × (Is (row R₃) (u .r₃ w) (R₃ .val (u .r₃ w) ∷ [])
@@ -173,7 +173,7 @@ module _ (S W R₁ R₂ R₃ C P : Kind) (u : Written W R₁ R₂ R₃ C) (put�
 
   all-meets : {M : Type 1} (𝓤 : URA M) (H : Heap 𝓤) (A : Atoms 𝓤) → Given 𝓤 H A → (𝓣 : Tables 𝓤 H) → Triple 𝓤 (𝓣 .C #thread) (Writes (puts-row R₁ put₁) 𝓤 H A)
       → Triple 𝓤 (𝓣 .C #tag) (Writes (puts-row R₂ put₂) 𝓤 H A) → Triple 𝓤 (𝓣 .C #object) (Writes (puts-row R₃ put₃) 𝓤 H A) → Triple 𝓤 (𝓣 .C #counts) (Writes (puts-part C put₄) 𝓤 H A)
-      → Triple 𝓤 (𝓣 .C #memory) (Writes (puts-part P put₅) 𝓤 H A) → Triple 𝓤 (WpFn 𝓤 H (𝓣 .C) (𝓣 .Λ) function) (Writes puts-all 𝓤 H A)
+      → Triple 𝓤 (𝓣 .C #note) (Writes (puts-part P put₅) 𝓤 H A) → Triple 𝓤 (WpFn 𝓤 H (𝓣 .C) (𝓣 .Λ) function) (Writes puts-all 𝓤 H A)
   all-meets 𝓤 H A G 𝓣 known₁ known₂ known₃ known₄ known₅ =
       meets-by puts-all 𝓤 H A G function 𝓣 (λ κ q x a are. walk 𝓤 H A G (𝓣 .C) (𝓣 .Λ) (fmOf 𝓤 H (G .laws) 𝓣) known₁ known₂ known₃ known₄ known₅ κ q x (a .0) (a .1 .0) (are .0) (are .1 .0))
 
@@ -205,8 +205,8 @@ object-put = row-put state object 64 of-state.objects
 abbrev counts-put : Writer
 counts-put = recounting state of-state.principals of-state.links of-state.tags of-state.grants
 
-abbrev memory-put : Writer
-memory-put = stores state remembered of-state.memory
+abbrev note-put : Writer
+note-put = record { on = state; more = kinds.note ∷ []; becomes = λ κs h a. notePut h (a .0) }
 
 -- what they do to a state
 module _ (h : Value state) where
@@ -222,21 +222,21 @@ module _ (h : Value state) where
   abbrev put-counts : Value counts → Value state
   put-counts c = counts-put .becomes ([], tt) h (c, tt)
 
-  abbrev put-memory : Value remembered → Value state
-  put-memory m = of-state.memory .part .put h m
+  abbrev put-note : Value kinds.note → Value state
+  put-note n = notePut h n
 
 abbrev writer : Writer
-writer = puts-all state kinds.writes thread tag object counts remembered writes-parts put-thread put-tag put-object put-counts put-memory thread-def.name tag-def.name object-def.name counts-def.name memory-def.name
+writer = puts-all state kinds.writes thread tag object counts kinds.note writes-parts put-thread put-tag put-object put-counts put-note thread-def.name tag-def.name object-def.name counts-def.name note-def.name
 
 pub write-all-spec : {M : Type 1} → fn.Statement.statement M
 unfolding code.routine tablesOf
 write-all-spec 𝓤 H 𝓜 𝓖 𝓡 =
     stated 𝓤 H 𝓜 𝓖 𝓡 (ended writer) (promise writer 𝓤) (λ κs a. fn.clauses 𝓤 H (𝓖 .A) (𝓜 .mem) (𝓡 .run) κs a .ensures tt) (λ κs a r e X is. is)
     code.env fn.Key.name code.function (code.unfolded 𝓤 H 𝓜 𝓡)
-    (all-meets state kinds.writes thread tag object counts remembered writes-parts put-thread put-tag put-object put-counts put-memory thread-def.name tag-def.name object-def.name counts-def.name memory-def.name
+    (all-meets state kinds.writes thread tag object counts kinds.note writes-parts put-thread put-tag put-object put-counts put-note thread-def.name tag-def.name object-def.name counts-def.name note-def.name
     𝓤 H (𝓖 .A) (givenOf 𝓤 H 𝓜 𝓖) (tablesOf 𝓤 H 𝓜 (tables 𝓤 H 𝓜 𝓡 code.env))
     (cited 𝓤 H (Writes thread-put 𝓤 H (𝓖 .A)) 𝓜 𝓡 code.env thread-def.name thread-def.routine code.calls-lent·put-thread (thread-thm.met 𝓤 H 𝓜 𝓖 𝓡))
     (cited 𝓤 H (Writes tag-put 𝓤 H (𝓖 .A)) 𝓜 𝓡 code.env tag-def.name tag-def.routine code.calls-lent·put-tag (tag-thm.met 𝓤 H 𝓜 𝓖 𝓡))
     (cited 𝓤 H (Writes object-put 𝓤 H (𝓖 .A)) 𝓜 𝓡 code.env object-def.name object-def.routine code.calls-lent·put-object (object-thm.met 𝓤 H 𝓜 𝓖 𝓡))
     (cited 𝓤 H (Writes counts-put 𝓤 H (𝓖 .A)) 𝓜 𝓡 code.env counts-def.name counts-def.routine code.calls-lent·put-counts (counts-thm.met 𝓤 H 𝓜 𝓖 𝓡))
-    (cited 𝓤 H (Writes memory-put 𝓤 H (𝓖 .A)) 𝓜 𝓡 code.env memory-def.name memory-def.routine code.calls-lent·put-memory (memory-thm.met 𝓤 H 𝓜 𝓖 𝓡)))
+    (cited 𝓤 H (Writes note-put 𝓤 H (𝓖 .A)) 𝓜 𝓡 code.env note-def.name note-def.routine code.calls-lent·note (note-thm.met 𝓤 H 𝓜 𝓖 𝓡)))
