@@ -1,5 +1,5 @@
 -- `memory::place` meets its contract: each return is an end of the search. Assumes nothing.
-use mathlib.Core.Path.{_≡_, sym, ap, _∙_}
+use mathlib.Core.Path.{sym, ap, _∙_}
 use borrow.Author.Needs.{needs}
 use Rattle.memory.specs.Notes.{placeOf}
 use Rattle.memory.proofs.place.Statement.{statement}
