@@ -25,8 +25,8 @@ use Rattle.frames.specs.declared.requests.Request.the-variants.{OfAuthority}
 use Rattle.sight.specs.Sight.{sightOf}
 use Rattle.named.specs.Named.{isSupertag}
 use Rattle.outcomes.specs.declared.Outcome.{Outcome}
-use Rattle.row_rules.specs.RowRules.{rankHolds}
-use Rattle.row_rules.specs.RowRules as rank
+use Rattle.tag_rules.specs.TagRules.{rankHolds}
+use Rattle.tag_rules.specs.TagRules as rank
 use Rattle.decide_authority.specs.Authority.{isPublic, principalAdded}
 use Rattle.decide.proofs.AuthorityComes as comes
 use Rattle.apply.specs.Apply.{withTag}

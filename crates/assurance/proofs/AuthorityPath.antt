@@ -23,7 +23,7 @@ use Rattle.tables.specs.declared.Tables.{Tables}
 use Rattle.tables.specs.declared.rows.Rank.{Rank}
 use Rattle.tables.specs.declared.rows.Rank.the-variants.{Supertag, SubtagOf}
 use Rattle.tables.specs.Things.{tagAt, lineageBy, lineageOf}
-use Rattle.row_rules.specs.RowRules.{supertagMade}
+use Rattle.tag_rules.specs.TagRules.{supertagMade}
 use Rattle.frames.specs.Requests.{threadOf, requestOf}
 use Rattle.sight.specs.Sight.{tagNamed}
 use Rattle.act.specs.World.{World}

@@ -16,8 +16,10 @@ use Rattle.tables.specs.Things.{noTag, noObject, objectAt, freshTables}
 use Rattle.tables.proofs.Said.{no-object-says}
 use Rattle.state.specs.Start.{emptyMemory}
 use Rattle.link_rules.proofs.RuleLaws.{LinksHold}
-use Rattle.row_rules.specs.RowRules.{threadsHold, threadHolds, asideMade, asideUnused, objectsHold, objectHolds}
-use Rattle.row_rules.proofs.RuleLaws.{threadsHold-is, objectsHold-is}
+use Rattle.thread_rules.specs.ThreadRules.{threadsHold, threadHolds, asideMade, asideUnused}
+use Rattle.thread_rules.proofs.RuleLaws.{threadsHold-is}
+use Rattle.object_rules.specs.ObjectRules.{objectsHold, objectHolds}
+use Rattle.object_rules.proofs.RuleLaws.{objectsHold-is}
 use Rattle.kept.proofs.MemoryKept.{memory-fresh}
 use Rattle.act.specs.World.{worldOf}
 use Rattle.assurance.specs.Runs.{fresh}

@@ -23,7 +23,7 @@ use Rattle.tables.specs.declared.rows.TagRow.{TagRow}
 use Rattle.tables.specs.declared.rows.Rank.{Rank}
 use Rattle.tables.specs.declared.rows.Rank.the-variants.{Supertag, SubtagOf}
 use Rattle.tables.specs.Things.{noTag, tagAt, rootedAt, lineageBy, lineageOf}
-use Rattle.row_rules.specs.RowRules.{rankHolds}
+use Rattle.tag_rules.specs.TagRules.{rankHolds}
 use Rattle.frames.specs.Requests.{threadOf}
 use Rattle.frames.specs.declared.requests.AuthorityRequest.{AuthorityRequest}
 use Rattle.frames.specs.declared.requests.Request.the-variants.{OfAuthority}

@@ -19,7 +19,7 @@ use Rattle.tables.specs.declared.rows.ThreadRow.{ThreadRow}
 use Rattle.tables.specs.declared.rows.TagRow.{TagRow}
 use Rattle.tables.specs.Things.{nobody, noThread, noTag, pastThread, threadAt, tagAt, freshTables}
 use Rattle.tables.proofs.Among.{live-among}
-use Rattle.row_rules.specs.RowRules.{asideAt}
+use Rattle.thread_rules.specs.ThreadRules.{asideAt}
 use Rattle.apply.specs.Apply.{called, backFrom}
 use Rattle.act.specs.World.{World}
 use Rattle.kept.proofs.LinksKept.{ofTag}

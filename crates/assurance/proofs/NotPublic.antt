@@ -23,7 +23,7 @@ use Rattle.tables.specs.Rows.{rankOf}
 use Rattle.tables.specs.declared.rows.Rank.{Rank}
 use Rattle.tables.specs.declared.rows.Rank.the-variants.{Supertag, SubtagOf}
 use Rattle.tables.specs.Things.{tagAt, rootedAt, lineageBy, lineageOf}
-use Rattle.row_rules.specs.RowRules.{rankHolds}
+use Rattle.tag_rules.specs.TagRules.{rankHolds}
 use Rattle.kept.proofs.TagsKept.{supertag-earlier}
 use Rattle.act.specs.World.{World}
 use Rattle.assurance.proofs.Worlds.{WorldHolds}

@@ -13,6 +13,7 @@ use Rattle.numbers.proofs.Bools.{and-right}
 use Rattle.store.specs.Store.{storeSize}
 use Rattle.store.proofs.Over.{part-length}
 use Rattle.tables.specs.Rows.{isFree, whatOf, objectRow}
+use Rattle.tables.specs.Fields.{labelsMade}
 use Rattle.tables.specs.declared.Tables.{Tables}
 use Rattle.tables.specs.declared.rows.ObjectRow.{ObjectRow}
 use Rattle.tables.specs.declared.rows.What.{What}
@@ -31,8 +32,8 @@ use Rattle.frames.proofs.Spans.{SpanFits, ObjectSpans}
 use Rattle.answers.specs.Answers.{givenBy}
 use Rattle.sight.specs.Sight.{sightOf}
 use Rattle.outcomes.specs.declared.Outcome.{Outcome}
-use Rattle.row_rules.specs.RowRules.{labelsMade, whatInLimits, objectNumbersInLimits}
-use Rattle.row_rules.proofs.RuleLaws.{ObjectsHold}
+use Rattle.object_rules.specs.ObjectRules.{whatInLimits, objectNumbersInLimits}
+use Rattle.object_rules.proofs.RuleLaws.{ObjectsHold}
 use Rattle.store_rules.proofs.RuleLaws.{StoreHolds}
 use Rattle.decide_objects.specs.Objects.{emptyOf}
 use Rattle.decide.proofs.ObjectComes as comes

@@ -11,6 +11,7 @@ use Rattle.links.specs.declared.lists.Graph.the-variants.{Principals}
 use Rattle.links.specs.Links.{linksIn}
 use Rattle.links.specs.Authority.{authoritative}
 use Rattle.tables.specs.Rows.{isLive}
+use Rattle.tables.specs.Fields.{labelsMade}
 use Rattle.tables.specs.declared.Tables.{Tables}
 use Rattle.tables.specs.Things.{threadAt, lineageOf}
 use Rattle.tables.proofs.Among.{live-among}
@@ -25,7 +26,7 @@ use Rattle.named.specs.Named.{isSupertag, tagMade, named}
 use Rattle.flows.specs.Flows.{flows}
 use Rattle.prelude.specs.declared.Checked.{Checked}
 use Rattle.prelude.specs.Prelude.{prelude, asks}
-use Rattle.row_rules.specs.RowRules.{labelsMade, asideMade}
+use Rattle.thread_rules.specs.ThreadRules.{asideMade}
 use Rattle.act.specs.Step.{passes, seen, checked, asksOne, pairAsked, walked}
 use Rattle.assurance.specs.Runs.{Machine}
 use Rattle.assurance.proofs.Sound.{Sound, walkIn}

@@ -12,6 +12,7 @@ use Rattle.numbers.specs.Labels.{namesOnlyMade}
 use Rattle.numbers.proofs.Bools.{and-left, and-right, implies}
 use Rattle.numbers.proofs.LabelLaws.{made-with}
 use Rattle.tables.specs.Rows.{isLive}
+use Rattle.tables.specs.Fields.{labelsMade}
 use Rattle.tables.specs.declared.rows.ThreadRow.{ThreadRow}
 use Rattle.tables.specs.Things.{threadAt}
 use Rattle.tables.proofs.Among.{live-among}
@@ -20,7 +21,7 @@ use Rattle.frames.specs.declared.requests.ThreadRequest.{ThreadRequest}
 use Rattle.frames.specs.declared.requests.Request.the-variants.{OfThread}
 use Rattle.sight.specs.Sight.{sightOf}
 use Rattle.outcomes.specs.declared.Outcome.{Outcome}
-use Rattle.row_rules.specs.RowRules.{labelsMade, asideMade}
+use Rattle.thread_rules.specs.ThreadRules.{asideMade}
 use Rattle.apply.specs.Apply.{withThread, labelled}
 use Rattle.decide.proofs.ThreadComes as comes
 use Rattle.act.specs.World.{World, worldOf, applied}

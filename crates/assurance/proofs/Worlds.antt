@@ -6,7 +6,9 @@ use Rattle.numbers.specs.Numbers.{linkPlaces, mostThreads, mostTags, mostObject
 use Rattle.link_rules.proofs.RuleLaws.{LinksHold}
 use Rattle.store.specs.Store.{storeSize}
 use Rattle.memory.specs.declared.Memory.{Memory}
-use Rattle.row_rules.proofs.RuleLaws.{ThreadsHold, TagsHold, ObjectsHold}
+use Rattle.thread_rules.proofs.RuleLaws.{ThreadsHold}
+use Rattle.tag_rules.proofs.RuleLaws.{TagsHold}
+use Rattle.object_rules.proofs.RuleLaws.{ObjectsHold}
 use Rattle.store_rules.proofs.RuleLaws.{StoreHolds}
 use Rattle.memory_rules.proofs.RuleLaws.{MemoryHolds}
 use Rattle.rules.specs.Rules.{OnlyTruthBroken}

@@ -9,7 +9,7 @@ use Rattle.numbers.specs.declared.labels.Label.{Label}
 use Rattle.numbers.specs.declared.flow.LabelPair.{LabelPair}
 use Rattle.numbers.proofs.Says.{itself, and-is}
 use Rattle.numbers.proofs.LabelLaws.{without-within, made-more, made-within}
-use Rattle.row_rules.specs.RowRules.{labelsMade}
+use Rattle.tables.specs.Fields.{labelsMade}
 
 -- a tag fewer
 pub without-made : (tags : ℕ) (l : Label) (t : Tag) → namesOnlyMade l tags ≡ true → namesOnlyMade (withoutTag l t) tags ≡ true

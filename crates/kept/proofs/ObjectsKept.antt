@@ -12,8 +12,9 @@ use Rattle.tables.specs.Things.{noObject, objectAt}
 use Rattle.tables.specs.declared.rows.ObjectRow.{ObjectRow}
 use Rattle.tables.specs.declared.rows.What.{What}
 use Rattle.tables.specs.declared.rows.What.the-variants.{Free, Cell, Queue, Lock}
-use Rattle.row_rules.specs.RowRules.{labelsMade, whatInLimits, objectInLimits, objectMade, objectUnused}
-use Rattle.row_rules.proofs.RuleLaws.{ObjectsHold}
+use Rattle.tables.specs.Fields.{labelsMade}
+use Rattle.object_rules.specs.ObjectRules.{whatInLimits, objectInLimits, objectMade, objectUnused}
+use Rattle.object_rules.proofs.RuleLaws.{ObjectsHold}
 use Rattle.kept.proofs.LabelsKept.{labels-more}
 use Rattle.kept.proofs.Setting.{set-holds}
 

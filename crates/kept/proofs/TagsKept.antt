@@ -20,8 +20,8 @@ use Rattle.tables.specs.declared.rows.Rank.{Rank}
 use Rattle.tables.specs.declared.rows.Rank.the-variants.{Supertag, SubtagOf}
 use Rattle.tables.specs.Things.{noTag, tagAt}
 use Rattle.tables.proofs.Said.{rank-said}
-use Rattle.row_rules.specs.RowRules.{isSupertag, tagInLimits, supertagUnused, supertagMade, rankHolds}
-use Rattle.row_rules.proofs.RuleLaws.{TagsHold}
+use Rattle.tag_rules.specs.TagRules.{isSupertag, tagInLimits, supertagUnused, supertagMade, rankHolds}
+use Rattle.tag_rules.proofs.RuleLaws.{TagsHold}
 
 -- more principals are made
 pub tags-more :

@@ -17,8 +17,9 @@ use Rattle.numbers.proofs.Says.{eqb-is, leb-is, ltb-is, itself, and-is, from-is
 use Rattle.tables.specs.Rows.{isLive}
 use Rattle.tables.specs.declared.rows.ThreadRow.{ThreadRow}
 use Rattle.tables.specs.Things.{nobody, noThread, pastThread, threadAt}
-use Rattle.row_rules.specs.RowRules.{labelsMade, asideAt, asideMade, asideUnused, threadInLimits, threadMade, threadUnused}
-use Rattle.row_rules.proofs.RuleLaws.{ThreadsHold}
+use Rattle.tables.specs.Fields.{labelsMade}
+use Rattle.thread_rules.specs.ThreadRules.{asideAt, asideMade, asideUnused, threadInLimits, threadMade, threadUnused}
+use Rattle.thread_rules.proofs.RuleLaws.{ThreadsHold}
 use Rattle.apply.specs.Apply.{labelled, forked, called, backFrom}
 use Rattle.kept.proofs.LabelsKept.{labels-more}
 use Rattle.kept.proofs.Setting.{set-holds}

@@ -17,8 +17,8 @@ use Rattle.tables.specs.Things.{objectAt}
 use Rattle.tables.specs.declared.rows.ObjectRow.{ObjectRow}
 use Rattle.tables.specs.declared.rows.What.{What}
 use Rattle.tables.specs.declared.rows.What.the-variants.{Free, Cell, Queue, Lock}
-use Rattle.row_rules.specs.RowRules.{objectNumbersInLimits, whatInLimits, objectsHold}
-use Rattle.row_rules.proofs.RuleLaws.{objectsHold-is}
+use Rattle.object_rules.specs.ObjectRules.{objectNumbersInLimits, whatInLimits, objectsHold}
+use Rattle.object_rules.proofs.RuleLaws.{objectsHold-is}
 use Rattle.store_rules.specs.StoreRules.{placesUsed}
 use Rattle.rules.specs.Tested.{listsHold, holdButTruth}
 use Rattle.rules.proofs.RuleLaws.{tables-hold}

@@ -15,7 +15,9 @@ use Rattle.store.specs.Store.{storeSize}
 use Rattle.store.proofs.StoreLaws.{zeros-from}
 use Rattle.memory.specs.declared.Memory.{Memory}
 use Rattle.tables.specs.declared.Tables.{Tables}
-use Rattle.row_rules.proofs.RuleLaws.{ThreadsHold, TagsHold, ObjectsHold, threadsHold-is, tagsHold-is, objectsHold-is}
+use Rattle.thread_rules.proofs.RuleLaws.{ThreadsHold, threadsHold-is}
+use Rattle.tag_rules.proofs.RuleLaws.{TagsHold, tagsHold-is}
+use Rattle.object_rules.proofs.RuleLaws.{ObjectsHold, objectsHold-is}
 use Rattle.store_rules.proofs.RuleLaws.{StoreHolds, storeHolds-is}
 use Rattle.memory_rules.proofs.RuleLaws.{MemoryHolds, memoryHolds-is}
 use Rattle.rules.specs.Tested.{holdButTruth, pairTrue, pairsTrue, breakNoRule}

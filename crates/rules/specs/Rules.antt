@@ -18,7 +18,9 @@ use Rattle.tables.specs.declared.Tables.{Tables}
 use Rattle.tables.specs.declared.rows.ThreadRow.{ThreadRow}
 use Rattle.tables.specs.declared.rows.TagRow.{TagRow}
 use Rattle.tables.specs.declared.rows.ObjectRow.{ObjectRow}
-use Rattle.row_rules.specs.RowRules.{threadInLimits, threadMade, threadUnused, tagInLimits, supertagUnused, supertagMade, rankHolds, isNoTag, objectInLimits, objectMade, objectUnused}
+use Rattle.thread_rules.specs.ThreadRules.{threadInLimits, threadMade, threadUnused}
+use Rattle.tag_rules.specs.TagRules.{tagInLimits, supertagUnused, supertagMade, rankHolds, isNoTag}
+use Rattle.object_rules.specs.ObjectRules.{objectInLimits, objectMade, objectUnused}
 use Rattle.store_rules.specs.StoreRules.{placesUsed}
 use Rattle.memory_rules.specs.MemoryRules.{pairMade}
 use Rattle.rules.specs.Tested.{pairTrue}

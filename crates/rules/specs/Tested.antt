@@ -1,5 +1,5 @@
--- The rules of 9 (`Rules`) as one computed test: table by table, each by the tests that speak of it (`LinkRules`, `RowRules`,
--- `StoreRules`, `MemoryRules`). The law `rules-are` says that the test is the rules. Assumes nothing.
+-- The rules of 9 (`Rules`) as one computed test: table by table, each by the tests that speak of it (`LinkRules`, `ThreadRules`,
+-- `TagRules`, `ObjectRules`, `StoreRules`, `MemoryRules`). The law `rules-are` says that the test is the rules. Assumes nothing.
 use mathlib.Core.Bool.{Bool, _&&_}
 use mathlib.Core.List.{List}
 use Prim.Native.Nat.{ℕ, _-_, _/_, _%_}
@@ -18,7 +18,9 @@ use Rattle.tables.specs.declared.Tables.{Tables}
 use Rattle.tables.specs.declared.rows.ThreadRow.{ThreadRow}
 use Rattle.tables.specs.declared.rows.TagRow.{TagRow}
 use Rattle.tables.specs.declared.rows.ObjectRow.{ObjectRow}
-use Rattle.row_rules.specs.RowRules.{threadsHold, tagsHold, objectsHold}
+use Rattle.thread_rules.specs.ThreadRules.{threadsHold}
+use Rattle.tag_rules.specs.TagRules.{tagsHold}
+use Rattle.object_rules.specs.ObjectRules.{objectsHold}
 use Rattle.store_rules.specs.StoreRules.{storeHolds}
 use Rattle.memory_rules.specs.MemoryRules.{memoryHolds}
 

@@ -14,9 +14,7 @@ use link_rules::tag_links_hold;
 use memory::Memory;
 use memory_rules::memory_holds;
 use numbers::LINKS;
-use row_rules::objects::objects_hold;
-use row_rules::tags::tags_hold;
-use row_rules::threads::threads_hold;
+use object_rules::objects_hold;
 use store::STORE;
 use store::zero_numbers;
 use store_rules::store_holds;
@@ -24,6 +22,8 @@ use tables::Tables;
 use tables::rows::ObjectRow;
 use tables::rows::TagRow;
 use tables::rows::ThreadRow;
+use tag_rules::tags_hold;
+use thread_rules::threads_hold;
 
 // Both lists of links, their unused places, and "under 2 principals".
 fn lists_hold<'a>(

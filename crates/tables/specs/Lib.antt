@@ -1,3 +1,4 @@
 pub mod Rows
 pub mod Things
 pub mod Free
+pub mod Fields

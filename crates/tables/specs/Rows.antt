@@ -1,6 +1,6 @@
 -- What a row of plain numbers says, and the row that says it (01, "Things and numbers"). Every row says something: a flag is set
--- unless it is 0, and an object of a kind over 1 is a lock. That no other numbers stand in a row is a rule of 9 (`RowRules`).
--- Assumes nothing.
+-- unless it is 0, and an object of a kind over 1 is a lock. That no other numbers stand in a row is a rule of 9 (`ThreadRules`,
+-- `TagRules`, `ObjectRules`). Assumes nothing.
 use mathlib.Core.Bool.{Bool, true, false, not, cond}
 use Prim.Native.Nat.{ℕ}
 use lib.Dec.{eqb}

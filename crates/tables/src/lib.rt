@@ -1,6 +1,7 @@
 // The tables (01, "Things and numbers"): a row a thread, tag and object, and the counts. The two lists of
 // links and the store of messages are lent beside them, and the remembered answers stand beside them too.
 // A place that is not in use is zero.
+pub mod fields;
 pub mod free;
 pub mod lineage;
 pub mod rows;

@@ -5,7 +5,8 @@ use borrow.Author.Needs.{needs}
 use borrow.Author.Tests.{not-true, not-false}
 use Rattle.numbers.proofs.Bools.{and-right}
 use Rattle.numbers.proofs.Chain.{and-stop, and-go, by-yes}
-use Rattle.row_rules.specs.RowRules.{threadsHold, tagsHold}
+use Rattle.thread_rules.specs.ThreadRules.{threadsHold}
+use Rattle.tag_rules.specs.TagRules.{tagsHold}
 use Rattle.rules.specs.Tested.{listsHold, rowsHold}
 use Rattle.rules.proofs.Gives.{lists-limits, places-fit}
 use Rattle.rules.proofs.hold_but_truth.Statement.{statement}

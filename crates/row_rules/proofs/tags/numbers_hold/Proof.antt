@@ -1,7 +1,0 @@
--- `row_rules::tags::numbers_hold` meets its contract: the flag and the supertag are asked. Assumes nothing.
-use borrow.Author.Needs.{needs}
-use Rattle.row_rules.proofs.tags.numbers_hold.Statement.{statement}
-use Rattle.row_rules.proofs.tags.numbers_hold.Tie as tie
-
-pub numbers-hold-spec : {M : Type 1} → statement M
-numbers-hold-spec = tie.close (tie.spec (λ c κs. search needs) (λ c. cc))
