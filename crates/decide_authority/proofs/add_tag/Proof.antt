@@ -17,4 +17,4 @@ add-tag-spec =
     (λ c κs. search needs)
     (λ c. search needs)
     (λ c κs. search needs)
-    (λ c. skip _ (lt-leb (64) (c .before .before .before .before .before .before .args .s .tags) (c .before .before .before .before .if1 .left)) cc))
+    (λ c. skip _ (lt-leb (64) (c .before .before .before .before .before .before .args .s .tags) (c .before .before .before .before .if1 .left)) (rw (← c .before .tag-row-of .ensures) (c .rows-changed .ensures))))

@@ -1,7 +1,10 @@
 -- `decide_authority::decide_delegate` meets its contract: the row's tests in its order. Assumes nothing.
 use borrow.Author.Needs.{needs}
 use mathlib.Core.Path.{ap, _∙_}
+use Prim.Native.Nat.{ℕ}
 use Rattle.links.specs.Links.{stands}
+use Rattle.outcomes.specs.declared.ListChange.the-variants.{Append}
+use Rattle.outcomes.specs.Outcomes.{linksChanged}
 use borrow.Author.Tests.{le-leb, lt-leb}
 use Rattle.numbers.proofs.Chain.{skip, hit, by-not, by-yes}
 use Rattle.decide_authority.specs.Authority.{delegate}
@@ -29,4 +32,4 @@ decide-delegate-spec =
     (λ c κs. search needs)
     (λ c. skip _ (by-not (c .before .before .before .before .before .before .before .before .before .before .before .caller-acts-for .ensures) (c .before .before .before .before .before .before .before .before .before .before .if1 .left)) (skip _ (by-yes (c .before .before .before .before .before .before .before .before .before .is-public .ensures) (c .before .before .before .before .before .before .before .before .if2 .left)) (skip _ (by-yes (c .before .before .before .before .before .before .stands .ensures ∙ ap (stands (c .before .before .before .before .before .before .before .before .before .before .before .before .before .args .links .now) (c .before .before .before .before .before .before .before .before .before .before .before .before .before .args .s .links)) (c .before .before .before .before .before .before .before .principal-link .ensures)) (c .before .before .before .before .before .if3 .left)) (skip _ (by-yes (c .before .before .before .before .closes-cycle .ensures) (c .before .before .before .if4 .left)) (hit _ (le-leb (256) (c .before .before .before .before .before .before .before .before .before .before .before .before .before .args .s .links) (c .before .if5 .taken)) (c .refused4 .ensures))))))
     (λ c κs. search needs)
-    (λ c. skip _ (by-not (c .before .before .before .before .before .before .before .before .before .before .before .caller-acts-for .ensures) (c .before .before .before .before .before .before .before .before .before .before .if1 .left)) (skip _ (by-yes (c .before .before .before .before .before .before .before .before .before .is-public .ensures) (c .before .before .before .before .before .before .before .before .if2 .left)) (skip _ (by-yes (c .before .before .before .before .before .before .stands .ensures ∙ ap (stands (c .before .before .before .before .before .before .before .before .before .before .before .before .before .args .links .now) (c .before .before .before .before .before .before .before .before .before .before .before .before .before .args .s .links)) (c .before .before .before .before .before .before .before .principal-link .ensures)) (c .before .before .before .before .before .if3 .left)) (skip _ (by-yes (c .before .before .before .before .closes-cycle .ensures) (c .before .before .before .if4 .left)) (skip _ (lt-leb (256) (c .before .before .before .before .before .before .before .before .before .before .before .before .before .args .s .links) (c .before .if5 .left)) cc))))))
+    (λ c. skip _ (by-not (c .before .before .before .before .before .before .before .before .before .before .before .caller-acts-for .ensures) (c .before .before .before .before .before .before .before .before .before .before .if1 .left)) (skip _ (by-yes (c .before .before .before .before .before .before .before .before .before .is-public .ensures) (c .before .before .before .before .before .before .before .before .if2 .left)) (skip _ (by-yes (c .before .before .before .before .before .before .stands .ensures ∙ ap (stands (c .before .before .before .before .before .before .before .before .before .before .before .before .before .args .links .now) (c .before .before .before .before .before .before .before .before .before .before .before .before .before .args .s .links)) (c .before .before .before .before .before .before .before .principal-link .ensures)) (c .before .before .before .before .before .if3 .left)) (skip _ (by-yes (c .before .before .before .before .closes-cycle .ensures) (c .before .before .before .if4 .left)) (skip _ (lt-leb (256) (c .before .before .before .before .before .before .before .before .before .before .before .before .before .args .s .links) (c .before .if5 .left)) (c .links-changed .ensures ∙ ap (λ (x : ℕ). linksChanged (Append x)) (c .before .before .before .before .before .before .before .principal-link .ensures))))))))

@@ -9,4 +9,4 @@ is-counted-spec =
     (tie.spec
     (λ c κs. search needs)
     (λ c κs. search needs)
-    (λ c. cc))
+    (λ c. rw (← c .before .own-of .ensures) (c .counted-node .ensures)))

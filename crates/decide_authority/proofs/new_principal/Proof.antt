@@ -21,4 +21,4 @@ new-principal-spec =
     (λ c. skip _ (by-yes (c .before .before .before .before .before .before .caller-is-public .ensures) (c .before .before .before .before .before .if1 .left)) (skip _ (lt-leb (64) (c .before .before .before .before .before .before .before .args .s .principals) (c .before .before .before .if2 .left)) (hit _ (le-leb (256) (c .before .before .before .before .before .before .before .args .s .links) (c .before .if3 .taken)) (c .refused3 .ensures))))
     (λ c. search needs)
     (λ c κs. search needs)
-    (λ c. skip _ (by-yes (c .before .before .before .before .before .before .before .before .caller-is-public .ensures) (c .before .before .before .before .before .before .before .if1 .left)) (skip _ (lt-leb (64) (c .before .before .before .before .before .before .before .before .before .args .s .principals) (c .before .before .before .before .before .if2 .left)) (skip _ (lt-leb (256) (c .before .before .before .before .before .before .before .before .before .args .s .links) (c .before .before .before .if3 .left)) cc))))
+    (λ c. skip _ (by-yes (c .before .before .before .before .before .before .before .before .caller-is-public .ensures) (c .before .before .before .before .before .before .before .if1 .left)) (skip _ (lt-leb (64) (c .before .before .before .before .before .before .before .before .before .args .s .principals) (c .before .before .before .before .before .if2 .left)) (skip _ (lt-leb (256) (c .before .before .before .before .before .before .before .before .before .args .s .links) (c .before .before .before .if3 .left)) (rw (c .principal-link .ensures))))))

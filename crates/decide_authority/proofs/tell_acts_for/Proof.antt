@@ -1,6 +1,7 @@
 -- `decide_authority::tell_acts_for` meets its contract: the answer is told. Assumes nothing.
 use borrow.Author.Needs.{needs}
-use Rattle.decide_authority.specs.Authority.{tellsActsFor}
+use mathlib.Core.Path.{ap, _∙_}
+use Rattle.decide_authority.specs.Authority.{toldBool, tellsActsFor}
 use Rattle.decide_authority.proofs.tell_acts_for.Statement.{statement}
 use Rattle.decide_authority.proofs.tell_acts_for.Tie as tie
 
@@ -11,4 +12,4 @@ tell-acts-for-spec =
     (tie.spec
     (λ c κs. search needs)
     (λ c κs. search needs)
-    (λ c. cc))
+    (λ c. c .tell .ensures ∙ ap toldBool (c .before .acts-for .ensures)))
