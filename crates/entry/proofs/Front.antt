@@ -27,7 +27,7 @@ use denote.RattleType.{RattleType}
 use denote.Ref.{RefT}
 use denote.Slice.{Room}
 use Rattle.lent.proofs.Plain.{Kind, row, number, array-of, cell-out, cell-in}
-use Rattle.monitor.proofs.Turning.{Read}
+use Rattle.step.proofs.Turning.{Read}
 
 -- ---- elements that lie one after another, cut in two
 module _ (R : RattleType) where

@@ -46,7 +46,7 @@ use Rattle.lent.proofs.Passing.{renamed}
 use Rattle.lent.proofs.Plain.{Kind, Value, row}
 use Rattle.records.proofs.Stated.{Promise, promises}
 use Rattle.step.proofs.Acting.{Bytes, Buffer}
-use Rattle.monitor.proofs.Turning.{Read, Changed}
+use Rattle.step.proofs.Turning.{Read, Changed}
 use Rattle.monitor.proofs.Relending.{Waiting, lent-on, back}
 
 -- with the state s, the lists l and g, the store b, the frame f and the answer buffer a

@@ -3,3 +3,5 @@ pub mod Looking
 pub mod Acting
 mod OfBytes
 mod StepKinds
+pub mod Turning
+pub mod OneStep

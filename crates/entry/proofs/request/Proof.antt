@@ -55,7 +55,7 @@ use Rattle.step.proofs.Stepped.Laws as Sp′
 use Rattle.monitor.specs.Monitor.{requested, replyOf}
 use Rattle.monitor.proofs.Replying.{replying}
 use Rattle.step.proofs.Acting.{Buffer}
-use Rattle.monitor.proofs.Turning.{Read, Turns, calls-turn}
+use Rattle.step.proofs.Turning.{Read, Turns, calls-turn}
 use Rattle.records.specs.declared.principals.PrincipalLink.{PrincipalLink}
 use Rattle.records.specs.declared.tags.TagLink.{TagLink}
 use Rattle.records.specs.Records.{principalNumber, principalLink, tagNumber, tagLink, gathered, changed}

@@ -2,8 +2,8 @@
 -- they stop leaves the state and the store as they were; any other is the step's, to which the state and the buffers are given up for good (`Turning`).
 -- The walk is over any state, result and functions on them: those of the program are long to compare. All that it knows of a callee is that it meets its contract. Assumes nothing.
 use mathlib.Core.Path.{_≡_, refl, ap, _∙_}
-use mathlib.Core.Bool.{true, not}
-use Prim.Native.Nat.{ℕ, _<_, _≤_}
+use mathlib.Core.Bool.{not}
+use Prim.Native.Nat.{ℕ, _<_}
 use mathlib.Core.List.{List, [], _∷_}
 use native.Mathlib.Omega.{arith}
 use lib.Dec.{T, ltb, ltb→lt, nltb→le}
@@ -40,9 +40,7 @@ use Rattle.records.proofs.Steps.{var, sets}
 use Rattle.records.proofs.Told.{Plain, Told, calls-told}
 use Rattle.numbers.proofs.Bools.{and-left}
 use Rattle.rules.specs.Tested.{holdButTruth, pairsTrue}
-use Rattle.state.specs.declared.State.{State}
-use Rattle.act.specs.Step.{After, stepped}
-use Rattle.step.specs.Look.{stepOf}
+use Rattle.act.specs.Step.{After}
 use Rattle.monitor.specs.Monitor.{quiet, stopOf, stopAnswer}
 use Rattle.monitor.proofs.Entering.{stops, is-sound, has-room, buffer-stays, told-step, after-step}
 use Rattle.lent.proofs.whole.Symbol as whole-def
@@ -55,10 +53,11 @@ use Rattle.step.proofs.step.Symbol as step-def
 use Rattle.step.proofs.step.Met as step-thm
 use Rattle.monitor.proofs.reply as fn
 use Rattle.monitor.proofs.reply.Code as code
-use Rattle.monitor.proofs.Replying.{told-of, the-reply, replying}
+use Rattle.step.proofs.OneStep.{told-of, Sound, the-step, stepping}
+use Rattle.monitor.proofs.Replying.{the-reply, replying}
 use Rattle.monitor.proofs.Testing.{Test, Tests, calls-test}
 use Rattle.step.proofs.Acting.{Bytes}
-use Rattle.monitor.proofs.Turning.{Changed, Of, Deed, Turn, where-holds, always, Turns, ended, promise, Had, passed, End, ends, meets-by, state-goes, buffer-goes, calls-turn}
+use Rattle.step.proofs.Turning.{Changed, Of, Deed, Turn, where-holds, always, Turns, ended, promise, Had, passed, End, ends, meets-by, state-goes, buffer-goes, calls-turn}
 
 -- the tests have the number `number-of`, 0 where the request goes on, and leave the answer buffer at `buffer-of`; then follows what is `told`, or the step
 module _ (S R : Kind) (number-of : Of S ℕ) (buffer-of : Of S (List ℕ)) (told : ℕ → Value R) (φ : Value S → (l g b f a : List ℕ) → Type 0) (step reply : Deed S R) where
@@ -230,22 +229,10 @@ module _ (S R : Kind) (number-of : Of S ℕ) (buffer-of : Of S (List ℕ)) (told
         → Triple 𝓤 (𝓣 .C #stop) (Tests tests 𝓤 H A) → Triple 𝓤 (𝓣 .C #quiet) (Told telling 𝓤 H A) → Triple 𝓤 (𝓣 .C #step) (Turns steps 𝓤 H A)
         → Triple 𝓤 (WpFn 𝓤 H (𝓣 .C) (𝓣 .Λ) function) (Turns replies 𝓤 H A)
     reply-meets 𝓤 H A W 𝓣 known-whole known-stop known-quiet known-step =
-        meets-by replies 𝓤 H A W function 𝓣 (λ κs qs s l g b f a gl gg gb gf ga.
+        meets-by replies 𝓤 H A W function 𝓣 (λ κs qs s l g b f a gl gg gb gf ga _.
         walk 𝓤 H A W (𝓣 .C) (𝓣 .Λ) (fmOf 𝓤 H (W .laws) 𝓣) known-whole known-stop known-quiet known-step κs qs s l g b f a gl gg gb gf ga)
 
 -- ---- those of the program
-
--- what the step asks: "It is defined for all tables that break no rule but the truth of remembered pairs"
-abbrev Sound : State → (l g b f a : List ℕ) → Type 0
-Sound s l g b f a = (holdButTruth (s .tables) (s .memory) l g b ≡ true) × (34 ≤ length a)
-
-abbrev the-step : Deed state told-of
-the-step = record {
-  gives = stepOf;
-  becomes = λ s l g b f a. stepped s l g b f a .replied .state;
-  stores = λ s l g b f a. stepped s l g b f a .store;
-  answers = λ s l g b f a. stepped s l g b f a .answer;
-}
 
 the-laws : Laws state told-of stopOf stopAnswer quiet Sound the-step the-reply
 the-laws = record {
@@ -267,4 +254,4 @@ reply-spec 𝓤 H 𝓜 𝓖 𝓡 =
     (cited 𝓤 H (Reads (copies state state (all-of-it.whole (row state))) 𝓤 H (𝓖 .A)) 𝓜 𝓡 code.env whole-def.name whole-def.routine code.calls-lent·whole (whole-thm.met 𝓤 H 𝓜 𝓖 𝓡))
     (cited 𝓤 H (Tests (tests state told-of stopOf stopAnswer quiet Sound the-step the-reply) 𝓤 H (𝓖 .A)) 𝓜 𝓡 code.env stop-def.name stop-def.routine code.calls-monitor·stop (stop-thm.met 𝓤 H 𝓜 𝓖 𝓡))
     (cited 𝓤 H (Told (telling state told-of stopOf stopAnswer quiet Sound the-step the-reply) 𝓤 H (𝓖 .A)) 𝓜 𝓡 code.env quiet-def.name quiet-def.routine code.calls-monitor·quiet (quiet-thm.met 𝓤 H 𝓜 𝓖 𝓡))
-    (cited 𝓤 H (Turns (where-holds state told-of Sound the-step) 𝓤 H (𝓖 .A)) 𝓜 𝓡 code.env step-def.name step-def.routine code.calls-step·step (step-thm.met 𝓤 H 𝓜 𝓖 𝓡)))
+    (cited 𝓤 H (Turns stepping 𝓤 H (𝓖 .A)) 𝓜 𝓡 code.env step-def.name step-def.routine code.calls-step·step (step-thm.met 𝓤 H 𝓜 𝓖 𝓡)))
