@@ -1,3 +1,4 @@
+pub mod Hearing
 pub mod Slices
 pub mod Looking
 pub mod Acting
@@ -5,3 +6,4 @@ mod OfBytes
 mod StepKinds
 pub mod Turning
 pub mod OneStep
+pub mod Places

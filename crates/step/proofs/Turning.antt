@@ -7,7 +7,7 @@
 --     meets-by         the function meets its contract, by a walk.        meets-where      one that asks for φ does, by a walk that has φ
 --     calls-turn       a call of it: the state and the buffers are given up for good
 -- Assumes `Given`.
-use mathlib.Core.Path.{_≡_, refl, sym, ap, subst}
+use mathlib.Core.Path.{_≡_, refl}
 use Prim.Native.Nat.{ℕ}
 use mathlib.Core.List.{List, [], _∷_, _++_}
 use lib.ListN.{length}
@@ -21,19 +21,19 @@ use ghost.Atoms.{Atoms}
 use sound.WpLaws.{FmC, WpFn-mono}
 use contract.Lifetimes.{Lfts, Shares}
 use contract.Monad.{fact, factI, fact-use}
-use types.Kit.{Given, Goal, Item, Post, Seq, Soaks, Step, step, ‵, raw, ⋆, runs, lands, _⊛_, some, later, cut, _$_, _∵_, !, qed, by, move, drop, use0, use1, split, join, pick, fsplit, fsplit3, fjoin, feqL, suffices, frame, await, done}
+use types.Kit.{Given, Goal, Item, Post, Seq, Soaks, Step, step, ‵, raw, ⋆, runs, lands, _⊛_, some, cut, _$_, _∵_, !, qed, by, move, drop, use0, use1, split, join, pick, fsplit, fsplit3, fjoin, feqL, suffices, frame, done}
 use types.Run.{Opds}
 use denote.Builtin.{u8, u32}
 use denote.Exit.{yes}
-use denote.Laws.{Is, shows}
+use denote.Laws.{Is}
 use denote.RattleType.{owns}
 use denote.Ref.{RefT, MutRef, now, at-last, ptr-vals, mut-tells}
 use denote.Signature.{Signature, plain, mutRefTo, shrSliceOf, mutSliceOf}
 use denote.Slice.{sliceVal, slice-vals, MutSlice, ShrSlice, Room, heres, finally, res-finally, codedHoleys, mut-slice-tells, shr-slice-tells}
-use denote.Steps.{only, nothing, owned, facts, heard}
+use denote.Steps.{nothing, owned, heard}
 use denote.Triple.Call.{calls-at}
 use denote.Triple.Clauses as Clauses
-use denote.Triple.Clauses.{Ended, closing, ensured}
+use denote.Triple.Clauses.{Ended, closing}
 use denote.Triple.Entry.{Vals, onEntry}
 use denote.Triple.Spec.{Meets, tripleOf}
 use denote.Triple.Statement.{Contract, Triple}
@@ -42,6 +42,7 @@ use Rattle.lent.proofs.Plain.{Kind, Value, row}
 use Rattle.lent.proofs.Writing.{Mine}
 use Rattle.records.proofs.Stated.{Promise}
 use Rattle.step.proofs.Acting.{Bytes, Buffer}
+use Rattle.step.proofs.Hearing.{hears}
 use Rattle.step.proofs.Slices.{Read}
 
 -- a lent buffer, at another list of as many bytes
@@ -297,12 +298,10 @@ Next {M} {𝓤} {H} {A} K W Γ t κs qs s l g b f a G = (r : Value (t .result)) 
 module _ {M : Type 1} {𝓤 : URA M} {H : Heap 𝓤} {A : Atoms 𝓤} {K : Type 0} {W : Given 𝓤 H A} {Γ : List (Item 𝓤)} (t : Turn) (κs : Lfts 6) (qs : Shares 6) (s : RefT (Value (t .on))) (l g b f a : Bytes) where
   learns : K → (G : Val → Goal 𝓤 H) → ((v : Val) → Soaks (G v)) → Next K W Γ t κs qs s l g b f a G → (v : Val) → Seq K W (raw (Turns t 𝓤 H A .post (to t 𝓤 H A κs qs s l g b f a) v) ∷ Γ) (G v)
   learns k G z next v =
-      let R : Kind = t .result in
-      use1 W (later (some (λ (r : Value R). (tokens t 𝓤 H A κs qs s l g b f a ⊛ ‵ (row R .own r (v ∷ []))) ⊛ raw (ensured 𝓤 H A (ended t) (clauses t 𝓤) κs (args t 𝓤 H A κs qs s l g b f a) tt r))))
-      (id⊢ 𝓤 _) $ await k (z v) $ pick k (λ r. split k $ split k $ move k (1 ∷ []) $ facts k (row R) (Is (row R)) (shows 𝓤 H A (row R)) r (v ∷ []) (λ is. move k (1 ∷ []) $
-      use1 W (some (λ (ws : Clauses.Lasts (ended t) κs (args t 𝓤 H A κs qs s l g b f a)). ‵ (Clauses.lasts (ended t) κs (args t 𝓤 H A κs qs s l g b f a) ws)
+      hears k (t .result) (tokens t 𝓤 H A κs qs s l g b f a)
+      (λ r. some (λ (ws : Clauses.Lasts (ended t) κs (args t 𝓤 H A κs qs s l g b f a)). ‵ (Clauses.lasts (ended t) κs (args t 𝓤 H A κs qs s l g b f a) ws)
       ⊛ (raw (fact 𝓤 (Gives t 𝓤 H A κs qs s l g b f a r)) ⊛ (raw (fact 𝓤 (Becomes t 𝓤 H A κs qs s l g b f a (ws .0)))
-      ⊛ (raw (fact 𝓤 (Stores t 𝓤 H A κs qs s l g b f a (ws .1 .1 .1 .0))) ⊛ raw (fact 𝓤 (Answers t 𝓤 H A κs qs s l g b f a (ws .1 .1 .1 .1 .1 .0)))))))) (id⊢ 𝓤 _) $
+      ⊛ (raw (fact 𝓤 (Stores t 𝓤 H A κs qs s l g b f a (ws .1 .1 .1 .0))) ⊛ raw (fact 𝓤 (Answers t 𝓤 H A κs qs s l g b f a (ws .1 .1 .1 .1 .1 .0)))))))) G z (λ r is.
       pick k (λ ws. split k $ move k (1 ∷ []) $ split k $ heard k (Gives t 𝓤 H A κs qs s l g b f a r) (λ e₁. split k $ heard k (Becomes t 𝓤 H A κs qs s l g b f a (ws .0)) (λ e₂. split k $
       heard k (Stores t 𝓤 H A κs qs s l g b f a (ws .1 .1 .1 .0)) (λ e₃. heard k (Answers t 𝓤 H A κs qs s l g b f a (ws .1 .1 .1 .1 .1 .0)) (λ e₄.
       -- [what is said of the last values; the tokens; ..]
@@ -310,8 +309,7 @@ module _ {M : Type 1} {𝓤 : URA M} {H : Heap 𝓤} {A : Atoms 𝓤} {K : Type 
       -- [the last answer; nothing; the last store; the last state; the tokens; ..]
       move k (4 ∷ []) $ split k $ move k (1 ∷ []) $ split k $ move k (1 ∷ []) $ split k $ move k (1 ∷ []) $ split k $ move k (1 ∷ []) $ split k $ move k (1 ∷ []) $ split k $
       move k (1 ∷ []) $ drop k $ move k (7 ∷ []) $ drop k $ move k (5 ∷ 8 ∷ 4 ∷ 3 ∷ 2 ∷ 7 ∷ 1 ∷ 0 ∷ 6 ∷ []) $
-      subst (λ (u : Val). Seq K W (Left t 𝓤 H A κs qs s l g b f a (ws .0) (ws .1 .1 .1 .0) (ws .1 .1 .1 .1 .1 .0) ++ Γ) (G u)) (sym (ap only (R .tells r (v ∷ []) is)))
-      (next r (ws .0) (ws .1 .1 .1 .0) (ws .1 .1 .1 .1 .1 .0) (subst (Is (row R) r) (R .tells r (v ∷ []) is) is) e₁ e₂ lb e₃ la e₄))))))))))
+      next r (ws .0) (ws .1 .1 .1 .0) (ws .1 .1 .1 .1 .1 .0) is e₁ e₂ lb e₃ la e₄)))))))) v
 
   module _ {E : Env 𝓤 H} {C : Calls 𝓤 H} {Λ : Loops 𝓤 H} {p : Post 𝓤 H} {n : Name} {xs : List Operand} {d : Place} where
     pub calls-turn : K → FmC 𝓤 H (W .laws) C → {rest : Body} → Triple 𝓤 (C n) (Turns t 𝓤 H A) → ent 𝓤 (emp 𝓤) (Asks t 𝓤 H A κs qs s l g b f a)

@@ -2,7 +2,6 @@
 -- Each list of records is lent as a `&` to its `numbers_of`, and comes back as it was (`Lent`). Of the numbers, which lie in two local arrays, the first so many are lent as a `&` to `reply` (`Front`).
 -- The state, the store, the frame and the answer buffer are given up for good to `reply`, and each list to its `put_back`. That the lists are those of their numbers is known of the records that were
 -- lent: each is of its type (`Elements`). Assumes nothing.
-mod Places
 mod Telling
 use mathlib.Core.Path.{_≡_, refl, sym, subst, _∙_, ap}
 use Prim.Native.Nat.{ℕ, _<_, _≤_}
@@ -114,7 +113,7 @@ use Rattle.entry.proofs.request as request
 use Rattle.entry.proofs.request.Statement as stated
 use Rattle.entry.proofs.request.Code as code
 use Rattle.entry.proofs.request.Code.Mir as mir′
-use Rattle.entry.proofs.request.Proof.Places.{at, reads, pointer-of, slice-of, rooms, frees-all}
+use Rattle.step.proofs.Places.{at, reads, pointer-of, slice-of, rooms, frees-all}
 use Rattle.entry.proofs.request.Proof.Telling.{toldTy, parts, countsTy, counted, replyTy, replyVal, given-is, reads-told, reads-counts}
 
 abbrev stayed : Stays (request.ended .signature .params) (request.ended .kept)

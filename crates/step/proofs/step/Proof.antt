@@ -16,10 +16,10 @@ use ghost.Atoms.{Atoms}
 use sound.WpLaws.{FmC, fmOf}
 use contract.Running.{givenOf, tables, tablesOf}
 use types.Kit.{Given, ‵, _$_, _∵_, !, qed, by, move, rewrite}
-use types.Part.{agg, sub, whole, look-in}
-use types.Run.{look, init, forget, stop, fld, hop, from, load, addr, no-more, and-then, land, returns, enter, alloc1, alloc0, params1, pass1, pass0, free1, free0}
+use types.Part.{agg}
+use types.Run.{look, init, forget, stop, hop, from, addr, no-more, and-then, land, returns, enter, alloc1, alloc0, params1, pass1, pass0}
 use denote.Laws.{Is}
-use denote.Ref.{now, at-last}
+use denote.Ref.{at-last}
 use denote.Slice.{sliceTy}
 use denote.Struct.Field.{u32-field}
 use denote.Struct.Laws as LL
@@ -34,6 +34,7 @@ use Rattle.lent.proofs.Writing.{Writer, Writes, opens, closes}
 use Rattle.step.proofs.Acting.{Act, Acts, calls-act}
 use Rattle.step.proofs.Looking.{Looks, calls-look}
 use Rattle.step.proofs.OneStep.{told-of, Sound, the-step}
+use Rattle.step.proofs.Places.{reads, pointer-of, slice-of, frees-all}
 use Rattle.step.proofs.Turning.{Deed, Turn, where-holds, Turns, Had, Walk, passed, ends, meets-where, state-goes}
 use Rattle.numbers.specs.Numbers.{mostThreads, mostTags, mostObjects, mostRemembered}
 use Rattle.memory.specs.Notes.{noted}
@@ -227,31 +228,32 @@ module _ (c : Steps) (#look #act #write : Name)
           sets ! (addr ! (from ! (hop ! (look ! 40 refl) (stop !)))) 24 refl (tt, tt) $ move ! (0 ∷ 1 ∷ 8 ∷ 9 ∷ []) $
           calls-look ! fm S (c .seen) (c .sees) known-look (κs .0) (qs .0) s (κs .1 .1 .1 .1 .0) (qs .1 .1 .1 .1 .0) f (λ i j k. and-then ! (var ! 23 refl) (and-then ! (var ! 31 refl) (no-more !))) (λ y e is.
           land ! (from ! (stop !)) (init ! 28 refl (seen-typed y is)) $ rewrite ! 28 (λ (v : Val). ‵ (fat fullShare seen-ty l₇ 0 v)) (c .seen-is y) refl $
-          sets ! (addr ! (from ! (fld ! refl (hop ! (look-in ! 34 (sub ! 0 refl (whole !))) (stop !))))) 22 refl (tt, tt) $
-          sets ! (agg ! (and-then ! (var ! 22 refl) (and-then ! (load ! (from ! (fld ! refl (stop !))) (look-in ! 34 (sub ! 1 refl (whole !)))) (no-more !)))) 20 refl (tt, (tt, (record { fits = gb .0 }, tt))) $
-          sets ! (addr ! (from ! (fld ! refl (hop ! (look-in ! 30 (sub ! 0 refl (whole !))) (stop !))))) 18 refl (tt, tt) $
-          sets ! (agg ! (and-then ! (var ! 18 refl) (and-then ! (load ! (from ! (fld ! refl (stop !))) (look-in ! 30 (sub ! 1 refl (whole !)))) (no-more !)))) 16 refl (tt, (tt, (record { fits = ga .0 }, tt))) $
+          sets ! (pointer-of ! 34 refl refl) 22 refl (tt, tt) $
+          sets ! (slice-of ! 22 34 refl refl refl refl) 20 refl (tt, (tt, (record { fits = gb .0 }, tt))) $
+          sets ! (pointer-of ! 30 refl refl) 18 refl (tt, tt) $
+          sets ! (slice-of ! 18 30 refl refl refl refl) 16 refl (tt, (tt, (record { fits = ga .0 }, tt))) $
           -- [the state; its token; the frame; its token; the links; theirs; the grants; theirs; the store; its; the answer buffer; its 11]
           move ! (4 ∷ 5 ∷ 6 ∷ 7 ∷ 8 ∷ 9 ∷ 2 ∷ 3 ∷ 10 ∷ 11 ∷ []) $
           let law = laws (s .now) (l .now) (g .now) (b .now) (f .now) (a .now) here asks in
-          calls-act ! fm (c .act) known-act (κs .1 .0) (qs .1 .0) l (κs .1 .1 .0) (qs .1 .1 .0) g (κs .1 .1 .1 .0) (qs .1 .1 .1 .0) b (κs .1 .1 .1 .1 .0) (qs .1 .1 .1 .1 .0) f (κs .1 .1 .1 .1 .1 .0) (qs .1 .1 .1 .1 .1 .0) a (c .sight y) (c .own y) (c .memory y) (c .seen-parts y is .0) (c .seen-parts y is .1 .0) (c .seen-parts y is .1 .1 .0)
+          calls-act ! fm (c .act) known-act (κs .1 .0) (qs .1 .0) l (κs .1 .1 .0) (qs .1 .1 .0) g (κs .1 .1 .1 .0) (qs .1 .1 .1 .0) b (κs .1 .1 .1 .1 .0) (qs .1 .1 .1 .1 .0) f (κs .1 .1 .1 .1 .1 .0) (qs .1 .1 .1 .1 .1 .0) a
+          (c .sight y) (c .own y) (c .memory y) (c .seen-parts y is .0) (c .seen-parts y is .1 .0) (c .seen-parts y is .1 .1 .0)
           (subst (λ (u : Value (c .seen)). c .act .Asks (c .sight u) (c .own u) (c .memory u) (l .now) (g .now) (b .now) (f .now) (a .now)) (sym e) (law .asks))
-          (λ i₀ i₁ i₂ i₃. and-then ! (load ! (from ! (fld ! refl (stop !))) (look-in ! 22 (sub ! 0 refl (whole !)))) (and-then ! (load ! (from ! (fld ! refl (stop !))) (look-in ! 22 (sub ! 1 refl (whole !))))
-          (and-then ! (load ! (from ! (fld ! refl (stop !))) (look-in ! 22 (sub ! 2 refl (whole !)))) (and-then ! (var ! 32 refl) (and-then ! (var ! 30 refl) (and-then ! (var ! 14 refl) (and-then ! (var ! 26 refl) (and-then ! (var ! 10 refl) (no-more !)))))))))
+          (λ i₀ i₁ i₂ i₃. and-then ! (reads ! 22 0 refl refl refl) (and-then ! (reads ! 22 1 refl refl refl)
+          (and-then ! (reads ! 22 2 refl refl refl) (and-then ! (var ! 32 refl) (and-then ! (var ! 30 refl) (and-then ! (var ! 14 refl) (and-then ! (var ! 26 refl) (and-then ! (var ! 10 refl) (no-more !)))))))))
           (λ z b′ a′ is′ e₁ lb e₂ la e₃.
           land ! (from ! (stop !)) (init ! 23 refl (acted-typed z is′)) $ rewrite ! 23 (λ (v : Val). ‵ (fat fullShare acted-ty l₈ 0 v)) (c .acted-is z) refl $ move ! (7 ∷ 8 ∷ []) $
           -- [the state; its token; what `act` left 2 .. 8; _15 9; _14 11; _13 13; _12 15; _11 17; _10 19; _9 21; _8 23; _7 25; _6 27; _5 29; _4 31; _3 33; _2 35; _1 37; _0 39]
           sets ! (addr ! (from ! (hop ! (look ! 37 refl) (stop !)))) 9 refl (tt, tt) $
           calls-writer writer (λ κs′. (c .to-write z, (c .to-note z, tt))) (λ κs′. (c .writes .val (c .to-write z) ∷ [], (c .note .val (c .to-note z) ∷ [], tt)))
           (λ κs′. (c .acted-parts z is′ .1 .1 .1 .1 .0, (c .acted-parts z is′ .1 .1 .1 .1 .1 .0, tt))) (κs .0) (qs .0) s ! fm known-write
-          (λ κs′ i j. and-then ! (var ! 9 refl) (and-then ! (load ! (from ! (fld ! refl (stop !))) (look-in ! 23 (sub ! 4 refl (whole !)))) (and-then ! (load ! (from ! (fld ! refl (stop !))) (look-in ! 23 (sub ! 5 refl (whole !)))) (no-more !))))
+          (λ κs′ i j. and-then ! (var ! 9 refl) (and-then ! (reads ! 23 4 refl refl refl) (and-then ! (reads ! 23 5 refl refl refl) (no-more !))))
           (λ κs′ h e₄. land ! (from ! (stop !)) (init ! 11 refl (tt, tt)) $
-          sets ! (agg ! (and-then ! (load ! (from ! (fld ! refl (stop !))) (look-in ! 23 (sub ! 0 refl (whole !)))) (and-then ! (load ! (from ! (fld ! refl (stop !))) (look-in ! 23 (sub ! 1 refl (whole !))))
-          (and-then ! (load ! (from ! (fld ! refl (stop !))) (look-in ! 23 (sub ! 2 refl (whole !)))) (and-then ! (load ! (from ! (fld ! refl (stop !))) (look-in ! 23 (sub ! 3 refl (whole !)))) (no-more !)))))) 39 refl (result-typed z is′) $
+          sets ! (agg ! (and-then ! (reads ! 23 0 refl refl refl) (and-then ! (reads ! 23 1 refl refl refl)
+          (and-then ! (reads ! 23 2 refl refl refl) (and-then ! (reads ! 23 3 refl refl refl) (no-more !)))))) 39 refl (result-typed z is′) $
           returns ! (look ! 39 refl) $ forget ! 9 refl $ forget ! 11 refl $ forget ! 13 refl $ forget ! 15 refl $ forget ! 17 refl $ forget ! 19 refl $ forget ! 21 refl $ forget ! 23 refl $ forget ! 25 refl $
           forget ! 27 refl $ forget ! 29 refl $ forget ! 31 refl $ forget ! 33 refl $ forget ! 35 refl $ forget ! 37 refl $ forget ! 39 refl $
           move ! (39 ∷ 40 ∷ 37 ∷ 38 ∷ 35 ∷ 36 ∷ 33 ∷ 34 ∷ 31 ∷ 32 ∷ 29 ∷ 30 ∷ 27 ∷ 28 ∷ 25 ∷ 26 ∷ 23 ∷ 24 ∷ 21 ∷ 22 ∷ 19 ∷ 20 ∷ 17 ∷ 18 ∷ 15 ∷ 16 ∷ 13 ∷ 14 ∷ 11 ∷ 12 ∷ 9 ∷ 10 ∷ []) $
-          free1 ! $ free1 ! $ free1 ! $ free1 ! $ free1 ! $ free1 ! $ free1 ! $ free1 ! $ free1 ! $ free1 ! $ free1 ! $ free1 ! $ free1 ! $ free1 ! $ free1 ! $ free1 ! $ free0 ! $
+          frees-all ! _ $
           let e₅ : z ≡ acted-at c (s .now) (l .now) (g .now) (b .now) (f .now) (a .now) = e₁ ∙ ap (λ (u : Value (c .seen)). c .act .gives (c .sight u) (c .own u) (c .memory u) (l .now) (g .now) (b .now) (f .now) (a .now)) e in
           state-goes ! S (κs .0) (at-last s h) $ move ! (1 ∷ []) $
           by ! (ends turn 𝓤 H A κs qs s l g b f a W (c .made z) _ h b′ a′ (c .made-is z (c .acted-parts z is′ .0) (c .acted-parts z is′ .1 .0) (c .acted-parts z is′ .1 .1 .0) (c .acted-parts z is′ .1 .1 .1 .0))
