@@ -27,7 +27,7 @@ use denote.RattleType.{RattleType}
 use denote.Ref.{RefT}
 use denote.Slice.{Room}
 use Rattle.lent.proofs.Plain.{Kind, row, number, array-of, cell-out, cell-in}
-use Rattle.monitor.proofs.Turning.{Read}
+use Rattle.step.proofs.Slices.{Read}
 
 -- ---- elements that lie one after another, cut in two
 module _ (R : RattleType) where
@@ -75,13 +75,13 @@ module _ (w : Width) (m b : ℕ) where
 
   module _ {M : Type 1} {𝓤 : URA M} {H : Heap 𝓤} {A : Atoms 𝓤} {K : Type 0} {W : Given 𝓤 H A} {Γ : List (Item 𝓤)} {G : Goal 𝓤 H} where
     pub lends-front : K → Soaks G → (n : ℕ) (xs : List ℕ) (v : Val) → Is (row (array-of N m)) xs (v ∷ []) → Room (row N) (length (take n xs))
-        → ((ν : ℕ) (δ : GName) → Seq K W (‵ (Read (row N) (ν ∷ []) (there δ (take n xs))) ∷ ‵ (flft (ν ∷ []) fullShare) ∷ ‵ (Kept (ν ∷ []) xs n) ∷ Γ) G) → Seq K W (‵ (fat fullShare τ b 0 v) ∷ Γ) G
+        → ((ν : ℕ) (δ : GName) → Seq K W (‵ (Read w (ν ∷ []) (there δ (take n xs))) ∷ ‵ (flft (ν ∷ []) fullShare) ∷ ‵ (Kept (ν ∷ []) xs n) ∷ Γ) G) → Seq K W (‵ (fat fullShare τ b 0 v) ∷ Γ) G
     lends-front k z n xs v is room next =
         use1 W (‵ (fat fullShare (rawTy τ) b 0 v)) (W .laws .at-raw fullShare τ b 0 v) $ cell-in k (array-of N m) fullShare xs v b 0 is $
         use1 W (‵ (arr-parts (shares (row N)) m .part fullShare xs b 0)) (array-apart 𝓤 H A W (row N) fullShare _ m xs b 0) $ fsplit k $ drop k $
         use1 W (‵ (cells (row N) fullShare (take n xs) b 0) ⊛ ‵ (rest (row N) n xs b 0)) (cuts (row N) 𝓤 H A W n xs b 0) $ split k $
         feqI k ℕ (length (take n xs)) (length (take n xs)) refl $ fjoin k $ lft-new k z (λ ν. move k (1 ∷ []) $
-        use1 W (later (some (λ (δ : GName). ‵ (Read (row N) (ν ∷ []) (there δ (take n xs))) ⊛ ‵ (flent (ν ∷ []) (front (ν ∷ []) xs n)))))
+        use1 W (later (some (λ (δ : GName). ‵ (Read w (ν ∷ []) (there δ (take n xs))) ⊛ ‵ (flent (ν ∷ []) (front (ν ∷ []) xs n)))))
         (lends-shr-slice 𝓤 H A W (row N) (named 0) (ν ∷ []) fullShare (take n xs) b 0 room) $ await k z $ pick k (λ δ. split k $
         -- [what is lent; the lender's part; the token; the others]
         move k (1 ∷ 3 ∷ []) $ fjoin k $ move k (1 ∷ 2 ∷ 0 ∷ []) $ next ν δ))

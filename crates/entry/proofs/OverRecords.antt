@@ -4,7 +4,7 @@ use mathlib.Core.Path.{_≡_, refl, sym, ap, ap₂, _∙_}
 use mathlib.Core.Bool.{Bool, true, false, not, cond}
 use mathlib.Core.List.{List, [], _∷_, _++_, map, append-nil}
 use mathlib.Core.Logic.{⊎-elim}
-use Prim.Native.Nat.{ℕ, zero, suc, _+_, _≤_, min}
+use Prim.Native.Nat.{ℕ, zero, suc, _≤_, min}
 use native.Mathlib.Omega.{arith}
 use borrow.Author.Tests.{eq-eqb, eqb-true, eqb-false}
 use lib.Dec.{eqb, ltb}
@@ -72,6 +72,12 @@ module _ {A : Type 0} (link : ℕ → A) where
           (map-append (drop (suc i) (take n l)) (0 ∷ drop n l)
           ∙ ap₂ (λ (xs ys : List A). xs ++ (link 0 ∷ ys)) (map-drop (suc i) (take n l) ∙ ap (drop (suc i)) (map-take n l)) (map-drop n l))
 
+  -- and so where the change is one that was told, of the numbers of all records
+  changed-all : (number : A → ℕ) (change : Stepped → ListChange) (n : ℕ) (ys : List A) (ms : List ℕ) (t u : Stepped) → t ≡ u → map link (map number ys) ≡ ys
+      → applyList (change u) n (map number ys) ≡ ms → changed link (change t) n ys ≡ map link ms
+  changed-all number change n ys ms t u e same is =
+      ap₂ (λ (x : Stepped) (xs : List A). changed link (change x) n xs) e (sym same) ∙ map-changed (change u) n (map number ys) ∙ ap (map link) is
+
 -- ---- the numbers that are handed on
 
 abbrev zeros : List ℕ
@@ -128,14 +134,19 @@ module _ (s : State) (b f a : List ℕ) where
   unfolding replyOf
   told-broken l g e q = skip _ e (hit _ q refl)
 
-  equal : {l g k h : List ℕ} → l ≡ k → g ≡ h → Same l g k h
-  equal p q =
+  -- where the two requests are known to leave y and z
+  same-as : {l g k h : List ℕ} {t : Stepped} {y z : After} → t ≡ replyOf s l g b f a → t ≡ replyOf s k h b f a → y ≡ requested s l g b f a → z ≡ requested s k h b f a
+      → y .replied .state ≡ z .replied .state → y .store ≡ z .store → y .answer ≡ z .answer → Same l g k h
+  same-as p q y z state store answer =
       record {
-        told = ap₂ (λ (x y : List ℕ). replyOf s x y b f a) p q;
-        state = ap₂ (λ (x y : List ℕ). requested s x y b f a .replied .state) p q;
-        store = ap₂ (λ (x y : List ℕ). requested s x y b f a .store) p q;
-        answer = ap₂ (λ (x y : List ℕ). requested s x y b f a .answer) p q;
+        told = sym p ∙ q;
+        state = sym (ap (λ (x : After). x .replied .state) y) ∙ state ∙ ap (λ (x : After). x .replied .state) z;
+        store = sym (ap (λ (x : After). x .store) y) ∙ store ∙ ap (λ (x : After). x .store) z;
+        answer = sym (ap (λ (x : After). x .answer) y) ∙ answer ∙ ap (λ (x : After). x .answer) z;
       }
+
+  equal : {l g k h : List ℕ} → l ≡ k → g ≡ h → Same l g k h
+  equal p q = same-as refl (ap₂ (λ (x y : List ℕ). replyOf s x y b f a) p q) refl (ap₂ (λ (x y : List ℕ). requested s x y b f a) p q) refl refl refl
 
   -- two lists of which one is not whole break a rule
   odd-break : (l g : List ℕ) → (length l ≡ 256 → length g ≡ 256 → ⊥) → not (breakNoRule (s .tables) (s .memory) l g b) ≡ true
@@ -150,22 +161,11 @@ module _ (s : State) (b f a : List ℕ) where
   both-odd : (l g k h : List ℕ) → (length l ≡ 256 → length g ≡ 256 → ⊥) → (length k ≡ 256 → length h ≡ 256 → ⊥) → Same l g k h
   both-odd l g k h odd even =
       ⊎-elim
-      (λ e.
-      record {
-        told = sym (told-short l g e) ∙ told-short k h e;
-        state = ap (λ (x : After). x .replied .state) (sym (when-short s l g b f a e)) ∙ ap (λ (x : After). x .replied .state) (when-short s k h b f a e);
-        store = ap (λ (x : After). x .store) (sym (when-short s l g b f a e)) ∙ ap (λ (x : After). x .store) (when-short s k h b f a e);
-        answer = ap (λ (x : After). x .answer) (sym (when-short s l g b f a e)) ∙ ap (λ (x : After). x .answer) (when-short s k h b f a e);
-      })
+      (λ e. same-as (told-short l g e) (told-short k h e) (when-short s l g b f a e) (when-short s k h b f a e) refl refl refl)
       (λ e.
       let x = odd-break l g odd in
       let y = odd-break k h even in
-      record {
-        told = sym (told-broken l g e x) ∙ told-broken k h e y;
-        state = ap (λ (x : After). x .replied .state) (sym (when-broken s l g b f a e x)) ∙ ap (λ (x : After). x .replied .state) (when-broken s k h b f a e y);
-        store = ap (λ (x : After). x .store) (sym (when-broken s l g b f a e x)) ∙ ap (λ (x : After). x .store) (when-broken s k h b f a e y);
-        answer = ap (λ (x : After). x .answer) (sym (when-broken s l g b f a e x)) ∙ ap (λ (x : After). x .answer) (when-broken s k h b f a e y);
-      })
+      same-as (told-broken l g e x) (told-broken k h e y) (when-broken s l g b f a e x) (when-broken s k h b f a e y) refl refl refl)
       (either (ltb (length a) shortestBuffer))
 
   -- what is handed on comes to the same as all the numbers
@@ -214,17 +214,11 @@ module _ (s : State) (ys : List PrincipalLink) (zs : List TagLink) (b f a : List
 
   pub links-are : map principalLink (map principalNumber ys) ≡ ys
       → changed principalLink (replyOf s handedLinks handedGrants b f a .links) (s .tables .links) ys ≡ map principalLink (overRecords s ys zs b f a .links)
-  links-are same =
-      ap₂ (λ (x : Stepped) (xs : List PrincipalLink). changed principalLink (x .links) (s .tables .links) xs) (handed-same s b f a ys zs .told) (sym same)
-      ∙ map-changed principalLink (replyOf s numbers tagNumbers b f a .links) (s .tables .links) numbers
-      ∙ ap (map principalLink) (told-links s numbers tagNumbers b f a)
+  links-are same = changed-all principalLink principalNumber (λ x. x .links) (s .tables .links) ys _ _ _ (handed-same s b f a ys zs .told) same (told-links s numbers tagNumbers b f a)
 
   pub grants-are : map tagLink (map tagNumber zs) ≡ zs
       → changed tagLink (replyOf s handedLinks handedGrants b f a .grants) (s .tables .grants) zs ≡ map tagLink (overRecords s ys zs b f a .grants)
-  grants-are same =
-      ap₂ (λ (x : Stepped) (xs : List TagLink). changed tagLink (x .grants) (s .tables .grants) xs) (handed-same s b f a ys zs .told) (sym same)
-      ∙ map-changed tagLink (replyOf s numbers tagNumbers b f a .grants) (s .tables .grants) tagNumbers
-      ∙ ap (map tagLink) (told-grants s numbers tagNumbers b f a)
+  grants-are same = changed-all tagLink tagNumber (λ x. x .grants) (s .tables .grants) zs _ _ _ (handed-same s b f a ys zs .told) same (told-grants s numbers tagNumbers b f a)
 
   pub store-is : requested s handedLinks handedGrants b f a .store ≡ overRecords s ys zs b f a .store
   store-is = handed-same s b f a ys zs .store

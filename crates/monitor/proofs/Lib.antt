@@ -2,4 +2,3 @@ pub mod Relending
 pub mod Entering
 pub mod Replying
 pub mod Testing
-pub mod Turning

@@ -24,7 +24,7 @@ use denote.Index.{row, whole-out, whole-in, opens-slice, closes-slice}
 use denote.Ref.{at-last}
 use Rattle.lent.proofs.Passing.{renamed}
 use Rattle.step.proofs.Acting.{Bytes, Buffer}
-use Rattle.monitor.proofs.Turning.{Changed}
+use Rattle.step.proofs.Turning.{Changed}
 
 module _ (κ κ′ : Lft) (q : Share) (x : Bytes) where
   -- the buffer's places, known as γ

@@ -1,15 +1,8 @@
 -- What `monitor::reply` is, for its callers: a turn of the state, by the definitions. Assumes nothing.
-use mathlib.Core.Path.{refl}
-use Rattle.lent.proofs.Plain.{Kind, of-field}
 use Rattle.lent.proofs.StateParts.{state}
-use Rattle.step.proofs.Stepped as Sp
-use Rattle.step.proofs.Stepped.Laws as Sp′
+use Rattle.step.proofs.OneStep.{told-of}
+use Rattle.step.proofs.Turning.{Deed, Turn, always}
 use Rattle.monitor.specs.Monitor.{requested, replyOf}
-use Rattle.monitor.proofs.Turning.{Deed, Turn, always}
-
--- its result
-abbrev pub told-of : Kind
-told-of = of-field Sp.the-field refl Sp′.the-field-laws Sp′.the-field-copy Sp′.the-field-plain
 
 abbrev pub the-reply : Deed state told-of
 the-reply = record {

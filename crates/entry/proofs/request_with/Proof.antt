@@ -20,8 +20,8 @@ use contract.Monad.{Fun, fact, factI}
 use contract.Lifetimes.{Lfts, Shares}
 use contract.Running.{givenOf, tables, tablesOf}
 use types.Kit.{Given, Item, ‵, raw, ⋆, _⊛_, some, later, _$_, _∵_, !, qed, by, move, keep, drop, group, use0, use1, split, join, pick, fsplit, fjoin, feqL, suffices, frame, await, done}
-use types.Part.{agg, sub, whole, look-in}
-use types.Run.{look, init, forget, stop, fld, hop, from, load, lit, addr, of-opd, and-then, no-more, assigns, land, returns, enter, alloc1, alloc0, params1, pass1, pass0, free1, free0}
+use types.Part.{agg}
+use types.Run.{look, init, forget, stop, from, load, lit, addr, of-opd, and-then, no-more, assigns, land, returns, enter, alloc1, alloc0, params1, pass1, pass0}
 use sound.WpLaws.{FmC, fmOf, WpFn-mono}
 use denote.RattleType.{RattleType, owns}
 use denote.Laws.{Is, Lawful, shows}
@@ -50,6 +50,7 @@ use Rattle.state.proofs.State.Laws as St′
 use Rattle.act.specs.Step.{After}
 use Rattle.lent.proofs.StateParts.{state}
 use Rattle.lent.proofs.Writing.{Mine}
+use Rattle.step.proofs.Places.{reads, pointer-of, slice-of, frees-all}
 use Rattle.records.specs.declared.principals.PrincipalLink.{PrincipalLink}
 use Rattle.records.specs.declared.tags.TagLink.{TagLink}
 use Rattle.entry.specs.declared.Lists.{Lists}
@@ -337,17 +338,17 @@ module _ {M : Type 1} (𝓤 : URA M) (H : Heap 𝓤) (A : Atoms 𝓤) (W : Given
         pass1 ! (init ! 36 refl (tt, (tt, (record { fits = gb .0 }, tt)))) $ pass1 ! (init ! 34 refl (tt, (tt, (record { fits = ga .0 }, tt)))) $ pass0 ! $
         -- [_22 0; _21 2; ..; _0 44; what is had at entry 46]
         assigns ! (of-opd ! (load ! (from ! (stop !)) (look ! 42 refl))) (from ! (stop !)) (init ! 32 refl (ss s u is)) $
-        assigns ! (of-opd ! (load ! (from ! (fld ! refl (stop !))) (look-in ! 40 (sub ! 0 refl (whole !))))) (from ! (stop !)) (init ! 30 refl (links-typed (x .links) v isv)) $
-        assigns ! (of-opd ! (load ! (from ! (fld ! refl (stop !))) (look-in ! 40 (sub ! 1 refl (whole !))))) (from ! (stop !)) (init ! 28 refl (grants-typed (x .grants) w isw)) $
+        assigns ! (of-opd ! (reads ! 40 0 refl refl refl)) (from ! (stop !)) (init ! 30 refl (links-typed (x .links) v isv)) $
+        assigns ! (of-opd ! (reads ! 40 1 refl refl refl)) (from ! (stop !)) (init ! 28 refl (grants-typed (x .grants) w isw)) $
         assigns ! (addr ! (from ! (stop !))) (from ! (stop !)) (init ! 22 refl (tt, tt)) $
         assigns ! (addr ! (from ! (stop !))) (from ! (stop !)) (init ! 20 refl (tt, tt)) $
         assigns ! (agg ! (and-then ! (load ! (from ! (stop !)) (look ! 20 refl)) (and-then ! (lit ! tt) (no-more !)))) (from ! (stop !)) (init ! 18 refl (tt, (tt, (record { fits = lit< tt }, tt)))) $
         assigns ! (addr ! (from ! (stop !))) (from ! (stop !)) (init ! 16 refl (tt, tt)) $
         assigns ! (agg ! (and-then ! (load ! (from ! (stop !)) (look ! 16 refl)) (and-then ! (lit ! tt) (no-more !)))) (from ! (stop !)) (init ! 14 refl (tt, (tt, (record { fits = lit< tt }, tt)))) $
-        assigns ! (addr ! (from ! (fld ! refl (hop ! (look-in ! 38 (sub ! 0 refl (whole !))) (stop !))))) (from ! (stop !)) (init ! 12 refl (tt, tt)) $
-        assigns ! (agg ! (and-then ! (load ! (from ! (stop !)) (look ! 12 refl)) (and-then ! (load ! (from ! (fld ! refl (stop !))) (look-in ! 38 (sub ! 1 refl (whole !)))) (no-more !)))) (from ! (stop !)) (init ! 10 refl (tt, (tt, (record { fits = gs .0 }, tt)))) $
-        assigns ! (addr ! (from ! (fld ! refl (hop ! (look-in ! 34 (sub ! 0 refl (whole !))) (stop !))))) (from ! (stop !)) (init ! 8 refl (tt, tt)) $
-        assigns ! (agg ! (and-then ! (load ! (from ! (stop !)) (look ! 8 refl)) (and-then ! (load ! (from ! (fld ! refl (stop !))) (look-in ! 34 (sub ! 1 refl (whole !)))) (no-more !)))) (from ! (stop !)) (init ! 6 refl (tt, (tt, (record { fits = ga .0 }, tt)))) $
+        assigns ! (pointer-of ! 38 refl refl) (from ! (stop !)) (init ! 12 refl (tt, tt)) $
+        assigns ! (slice-of ! 12 38 refl refl refl refl) (from ! (stop !)) (init ! 10 refl (tt, (tt, (record { fits = gs .0 }, tt)))) $
+        assigns ! (pointer-of ! 34 refl refl) (from ! (stop !)) (init ! 8 refl (tt, tt)) $
+        assigns ! (slice-of ! 8 34 refl refl refl refl) (from ! (stop !)) (init ! 6 refl (tt, (tt, (record { fits = ga .0 }, tt)))) $
         -- the state and the arrays are lent, for lifetimes ξ, ν and μ of the call
         move ! (32 ∷ []) $ lends-value ! tt state lain l₆ s u is (λ ξ γ.
         move ! (33 ∷ []) $ lends-array ! tt Pl.the-row tt (LL.makes Pl.the-type Pl′.the-plain 𝓤 H A) 256 l₇ (named 0) (x .links) v isv (lit< tt, lit< tt) (λ ν δ.
@@ -378,7 +379,7 @@ module _ {M : Type 1} (𝓤 : URA M) (H : Heap 𝓤) (A : Atoms 𝓤) (W : Given
         (init ! 53 refl (triple-typed answered ρ σ (lists listed) t u′ (pair v′ w′) (rs r t ist) (ss (zs .0) u′ isu′) (lists-typed y v′ w′ isv′ isw′))) $
         returns ! (look ! 53 refl) $
         forget ! 53 refl $ forget ! 51 refl $ forget ! 49 refl $ forget ! 47 refl $ forget ! 45 refl $ forget ! 43 refl $ forget ! 2 refl $ forget ! 1 refl $ forget ! 0 refl $ forget ! 38 refl $ forget ! 36 refl $ forget ! 34 refl $ forget ! 32 refl $ forget ! 30 refl $ forget ! 28 refl $ forget ! 26 refl $ forget ! 24 refl $ forget ! 22 refl $ forget ! 20 refl $ forget ! 18 refl $ forget ! 16 refl $ forget ! 14 refl $ forget ! 12 refl $
-        move ! (53 ∷ 54 ∷ 51 ∷ 52 ∷ 49 ∷ 50 ∷ 47 ∷ 48 ∷ 45 ∷ 46 ∷ 43 ∷ 44 ∷ 2 ∷ 42 ∷ 1 ∷ 41 ∷ 0 ∷ 40 ∷ 38 ∷ 39 ∷ 36 ∷ 37 ∷ 34 ∷ 35 ∷ 32 ∷ 33 ∷ 30 ∷ 31 ∷ 28 ∷ 29 ∷ 26 ∷ 27 ∷ 24 ∷ 25 ∷ 22 ∷ 23 ∷ 20 ∷ 21 ∷ 18 ∷ 19 ∷ 16 ∷ 17 ∷ 14 ∷ 15 ∷ 12 ∷ 13 ∷ []) $ free1 ! $ free1 ! $ free1 ! $ free1 ! $ free1 ! $ free1 ! $ free1 ! $ free1 ! $ free1 ! $ free1 ! $ free1 ! $ free1 ! $ free1 ! $ free1 ! $ free1 ! $ free1 ! $ free1 ! $ free1 ! $ free1 ! $ free1 ! $ free1 ! $ free1 ! $ free1 ! $ free0 ! $
+        move ! (53 ∷ 54 ∷ 51 ∷ 52 ∷ 49 ∷ 50 ∷ 47 ∷ 48 ∷ 45 ∷ 46 ∷ 43 ∷ 44 ∷ 2 ∷ 42 ∷ 1 ∷ 41 ∷ 0 ∷ 40 ∷ 38 ∷ 39 ∷ 36 ∷ 37 ∷ 34 ∷ 35 ∷ 32 ∷ 33 ∷ 30 ∷ 31 ∷ 28 ∷ 29 ∷ 26 ∷ 27 ∷ 24 ∷ 25 ∷ 22 ∷ 23 ∷ 20 ∷ 21 ∷ 18 ∷ 19 ∷ 16 ∷ 17 ∷ 14 ∷ 15 ∷ 12 ∷ 13 ∷ []) $ frees-all ! _ $
         keep ! (3 ∷ 2 ∷ 0 ∷ 6 ∷ 4 ∷ []) $
         by ! (exits z (zs .1 .1 .1 .0) (zs .1 .1 .1 .1 .1 .0) (triple t u′ (pair v′ w′)) (answered-is z t u′ (pair v′ w′) ist isu′ (lists-are y v′ w′ isv′ isw′))
         (λ i. record { reply = e₁ i; state = e₂ i; lists = record { links = e₃ i; grants = e₄ i } }) e₅ e₆ lb lc))))))))))))))))))))))))))))))))))))))))))

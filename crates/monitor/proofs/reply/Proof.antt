@@ -2,8 +2,8 @@
 -- they stop leaves the state and the store as they were; any other is the step's, to which the state and the buffers are given up for good (`Turning`).
 -- The walk is over any state, result and functions on them: those of the program are long to compare. All that it knows of a callee is that it meets its contract. Assumes nothing.
 use mathlib.Core.Path.{_≡_, refl, ap, _∙_}
-use mathlib.Core.Bool.{true, not}
-use Prim.Native.Nat.{ℕ, _<_, _≤_}
+use mathlib.Core.Bool.{not}
+use Prim.Native.Nat.{ℕ, _<_}
 use mathlib.Core.List.{List, [], _∷_}
 use native.Mathlib.Omega.{arith}
 use lib.Dec.{T, ltb, ltb→lt, nltb→le}
@@ -19,8 +19,7 @@ use contract.Lifetimes.{Lfts, Shares}
 use contract.Monad.{factI}
 use contract.Running.{givenOf, tables, tablesOf}
 use types.Kit.{Given, ‵, ⋆, atRet, _$_, _∵_, !, qed, by, move, drop, rewrite}
-use types.Part.{agg, sub, whole, look-in}
-use types.Run.{look, init, forget, stop, hop, fld, from, load, lit, bin, addr, and-then, no-more, land, first, skips, branches, exec, returns, returns-within, enter, alloc1, alloc0, params1, pass1, pass0, free1, free0}
+use types.Run.{look, init, forget, stop, hop, from, lit, bin, addr, and-then, no-more, land, first, skips, branches, exec, returns, returns-within, enter, alloc1, alloc0, params1, pass1, pass0}
 use denote.Builtin.{u8, u32}
 use denote.Exit.{yes}
 use denote.Plain.{uint-makes}
@@ -40,9 +39,11 @@ use Rattle.records.proofs.Steps.{var, sets}
 use Rattle.records.proofs.Told.{Plain, Told, calls-told}
 use Rattle.numbers.proofs.Bools.{and-left}
 use Rattle.rules.specs.Tested.{holdButTruth, pairsTrue}
-use Rattle.state.specs.declared.State.{State}
-use Rattle.act.specs.Step.{After, stepped}
-use Rattle.step.specs.Look.{stepOf}
+use Rattle.act.specs.Step.{After}
+use Rattle.step.proofs.Acting.{Bytes}
+use Rattle.step.proofs.OneStep.{told-of, Sound, the-step, stepping}
+use Rattle.step.proofs.Places.{pointer-of, slice-of, frees-all}
+use Rattle.step.proofs.Turning.{Changed, Of, Deed, Turn, where-holds, always, Turns, ended, promise, Had, passed, End, ends, meets-by, state-goes, buffer-goes, calls-turn}
 use Rattle.monitor.specs.Monitor.{quiet, stopOf, stopAnswer}
 use Rattle.monitor.proofs.Entering.{stops, is-sound, has-room, buffer-stays, told-step, after-step}
 use Rattle.lent.proofs.whole.Symbol as whole-def
@@ -55,10 +56,8 @@ use Rattle.step.proofs.step.Symbol as step-def
 use Rattle.step.proofs.step.Met as step-thm
 use Rattle.monitor.proofs.reply as fn
 use Rattle.monitor.proofs.reply.Code as code
-use Rattle.monitor.proofs.Replying.{told-of, the-reply, replying}
+use Rattle.monitor.proofs.Replying.{the-reply, replying}
 use Rattle.monitor.proofs.Testing.{Test, Tests, calls-test}
-use Rattle.step.proofs.Acting.{Bytes}
-use Rattle.monitor.proofs.Turning.{Changed, Of, Deed, Turn, where-holds, always, Turns, ended, promise, Had, passed, End, ends, meets-by, state-goes, buffer-goes, calls-turn}
 
 -- the tests have the number `number-of`, 0 where the request goes on, and leave the answer buffer at `buffer-of`; then follows what is `told`, or the step
 module _ (S R : Kind) (number-of : Of S ℕ) (buffer-of : Of S (List ℕ)) (told : ℕ → Value R) (φ : Value S → (l g b f a : List ℕ) → Type 0) (step reply : Deed S R) where
@@ -176,12 +175,10 @@ module _ (S R : Kind) (number-of : Of S ℕ) (buffer-of : Of S (List ℕ)) (told
           sets ! (addr ! (from ! (hop ! (look ! 48 refl) (stop !)))) 32 refl (tt, tt) $
           calls-reader (copies S S (all-of-it.whole (row S))) (λ η. tt) (λ η. tt) (λ η. tt) (κs .0) (qs .0) s ! fm known-whole (λ η i j. and-then ! (var ! 32 refl) (no-more !)) (λ η z e is.
           land ! (from ! (stop !)) (init ! 34 refl (typed S 𝓤 H A W z (S .val z) is)) $
-          sets ! (addr ! (from ! (fld ! refl (hop ! (look-in ! 42 (sub ! 0 refl (whole !))) (stop !))))) 30 refl (tt, tt) $
-          sets ! (agg ! (and-then ! (var ! 30 refl) (and-then ! (load ! (from ! (fld ! refl (stop !))) (look-in ! 42 (sub ! 1 refl (whole !)))) (no-more !)))) 28 refl
-          (tt, (tt, (record { fits = gb .0 }, tt))) $
-          sets ! (addr ! (from ! (fld ! refl (hop ! (look-in ! 38 (sub ! 0 refl (whole !))) (stop !))))) 26 refl (tt, tt) $
-          sets ! (agg ! (and-then ! (var ! 26 refl) (and-then ! (load ! (from ! (fld ! refl (stop !))) (look-in ! 38 (sub ! 1 refl (whole !)))) (no-more !)))) 24 refl
-          (tt, (tt, (record { fits = ga .0 }, tt))) $
+          sets ! (pointer-of ! 42 refl refl) 30 refl (tt, tt) $
+          sets ! (slice-of ! 30 42 refl refl refl refl) 28 refl (tt, (tt, (record { fits = gb .0 }, tt))) $
+          sets ! (pointer-of ! 38 refl refl) 26 refl (tt, tt) $
+          sets ! (slice-of ! 26 38 refl refl refl refl) 24 refl (tt, (tt, (record { fits = ga .0 }, tt))) $
           -- the tests
           move ! (2 ∷ 3 ∷ 4 ∷ 5 ∷ 6 ∷ 7 ∷ 8 ∷ 9 ∷ 10 ∷ 11 ∷ []) $ calls-test ! fm tests known-stop (κs .1) (qs .1) z l g b f a is gb ga
           (λ i₀ i₁ i₂ i₃ i₄ i₅. and-then ! (var ! 30 refl) (and-then ! (var ! 42 refl) (and-then ! (var ! 40 refl) (and-then ! (var ! 24 refl) (and-then ! (var ! 36 refl) (and-then ! (var ! 20 refl)
@@ -193,7 +190,7 @@ module _ (S R : Kind) (number-of : Of S ℕ) (buffer-of : Of S (List ℕ)) (told
           land ! (from ! (stop !)) (init ! 50 refl (typed R 𝓤 H A W r (R .val r) isr)) $ returns-within ! Result refl (look ! 50 refl) $
           forget ! 50 refl $ forget ! 48 refl $ forget ! 46 refl $ forget ! 44 refl $ forget ! 42 refl $ forget ! 40 refl $ forget ! 38 refl $ forget ! 36 refl $ forget ! 34 refl $ forget ! 32 refl $ forget ! 30 refl $ forget ! 28 refl $ forget ! 26 refl $ forget ! 24 refl $ forget ! 22 refl $
           -- [the links; their token; the grants; theirs; the store 4; its; the frame; its; the answer 8; its; the state 10; its; the locals 12 ..]
-          move ! (50 ∷ 51 ∷ 48 ∷ 49 ∷ 46 ∷ 47 ∷ 44 ∷ 45 ∷ 42 ∷ 43 ∷ 40 ∷ 41 ∷ 38 ∷ 39 ∷ 36 ∷ 37 ∷ 34 ∷ 35 ∷ 32 ∷ 33 ∷ 30 ∷ 31 ∷ 28 ∷ 29 ∷ 26 ∷ 27 ∷ 24 ∷ 25 ∷ 22 ∷ 23 ∷ 20 ∷ 21 ∷ 18 ∷ 19 ∷ 16 ∷ 17 ∷ 14 ∷ 15 ∷ 12 ∷ 13 ∷ []) $ free1 ! $ free1 ! $ free1 ! $ free1 ! $ free1 ! $ free1 ! $ free1 ! $ free1 ! $ free1 ! $ free1 ! $ free1 ! $ free1 ! $ free1 ! $ free1 ! $ free1 ! $ free1 ! $ free1 ! $ free1 ! $ free1 ! $ free1 ! $ free0 ! $
+          move ! (50 ∷ 51 ∷ 48 ∷ 49 ∷ 46 ∷ 47 ∷ 44 ∷ 45 ∷ 42 ∷ 43 ∷ 40 ∷ 41 ∷ 38 ∷ 39 ∷ 36 ∷ 37 ∷ 34 ∷ 35 ∷ 32 ∷ 33 ∷ 30 ∷ 31 ∷ 28 ∷ 29 ∷ 26 ∷ 27 ∷ 24 ∷ 25 ∷ 22 ∷ 23 ∷ 20 ∷ 21 ∷ 18 ∷ 19 ∷ 16 ∷ 17 ∷ 14 ∷ 15 ∷ 12 ∷ 13 ∷ []) $ frees-all ! _ $
           -- what says the last values
           drop ! $ move ! (1 ∷ []) $ drop ! $ move ! (4 ∷ []) $ drop ! $ move ! (2 ∷ []) $ buffer-goes ! (κs .1 .1 .1 .0) b (b .now) $ move ! (5 ∷ []) $ buffer-goes ! (κs .1 .1 .1 .1 .1 .0) a a′ $
           move ! (7 ∷ []) $ state-goes ! S (κs .0) s $
@@ -208,12 +205,10 @@ module _ (S R : Kind) (number-of : Of S ℕ) (buffer-of : Of S (List ℕ)) (told
           skips ! $ exec ! C Λ (En l₀ l₁ l₂ l₃ l₄ l₅ l₆ l₇ l₈ l₉ l₁₀ l₁₁ l₁₂ l₁₃ l₁₄ l₁₅ l₁₆ l₁₇ l₁₈ l₁₉) after (atRet (En l₀ l₁ l₂ l₃ l₄ l₅ l₆ l₇ l₈ l₉ l₁₀ l₁₁ l₁₂ l₁₃ l₁₄ l₁₅ l₁₆ l₁₇ l₁₈ l₁₉) Result) $
           rewrite ! 8 (λ (y : List ℕ). ‵ (Changed (κs .1 .1 .1 .1 .1 .0) a y)) (buffered z e n is-number a′ is-buffer ∙ on .1) refl $
           sets ! (addr ! (from ! (hop ! (look ! 48 refl) (stop !)))) 20 refl (tt, tt) $
-          sets ! (addr ! (from ! (fld ! refl (hop ! (look-in ! 42 (sub ! 0 refl (whole !))) (stop !))))) 18 refl (tt, tt) $
-          sets ! (agg ! (and-then ! (var ! 18 refl) (and-then ! (load ! (from ! (fld ! refl (stop !))) (look-in ! 42 (sub ! 1 refl (whole !)))) (no-more !)))) 16 refl
-          (tt, (tt, (record { fits = gb .0 }, tt))) $
-          sets ! (addr ! (from ! (fld ! refl (hop ! (look-in ! 38 (sub ! 0 refl (whole !))) (stop !))))) 14 refl (tt, tt) $
-          sets ! (agg ! (and-then ! (var ! 14 refl) (and-then ! (load ! (from ! (fld ! refl (stop !))) (look-in ! 38 (sub ! 1 refl (whole !)))) (no-more !)))) 12 refl
-          (tt, (tt, (record { fits = ga .0 }, tt))) $
+          sets ! (pointer-of ! 42 refl refl) 18 refl (tt, tt) $
+          sets ! (slice-of ! 18 42 refl refl refl refl) 16 refl (tt, (tt, (record { fits = gb .0 }, tt))) $
+          sets ! (pointer-of ! 38 refl refl) 14 refl (tt, tt) $
+          sets ! (slice-of ! 14 38 refl refl refl refl) 12 refl (tt, (tt, (record { fits = ga .0 }, tt))) $
           -- the step
           move ! (10 ∷ 11 ∷ []) $ calls-turn steps κs qs s l g b f a ! fm known-step (factI 𝓤 (φ (s .now) (l .now) (g .now) (b .now) (f .now) (a .now)) (emp 𝓤) (on .0))
           (λ i. and-then ! (var ! 9 refl) (and-then ! (var ! 35 refl) (and-then ! (var ! 33 refl) (and-then ! (var ! 5 refl) (and-then ! (var ! 29 refl) (and-then ! (var ! 1 refl) (no-more !)))))))
@@ -221,7 +216,7 @@ module _ (S R : Kind) (number-of : Of S ℕ) (buffer-of : Of S (List ℕ)) (told
           -- [what is left, 9 entries; _19 9; ..; _0 47]
           land ! (from ! (stop !)) (init ! 47 refl (typed R 𝓤 H A W r (R .val r) isr)) $ returns ! (look ! 47 refl) $
           forget ! 47 refl $ forget ! 45 refl $ forget ! 43 refl $ forget ! 41 refl $ forget ! 39 refl $ forget ! 37 refl $ forget ! 35 refl $ forget ! 33 refl $ forget ! 31 refl $ forget ! 29 refl $ forget ! 27 refl $ forget ! 25 refl $ forget ! 23 refl $ forget ! 21 refl $ forget ! 19 refl $ forget ! 17 refl $ forget ! 15 refl $ forget ! 13 refl $ forget ! 11 refl $ forget ! 9 refl $
-          move ! (47 ∷ 48 ∷ 45 ∷ 46 ∷ 43 ∷ 44 ∷ 41 ∷ 42 ∷ 39 ∷ 40 ∷ 37 ∷ 38 ∷ 35 ∷ 36 ∷ 33 ∷ 34 ∷ 31 ∷ 32 ∷ 29 ∷ 30 ∷ 27 ∷ 28 ∷ 25 ∷ 26 ∷ 23 ∷ 24 ∷ 21 ∷ 22 ∷ 19 ∷ 20 ∷ 17 ∷ 18 ∷ 15 ∷ 16 ∷ 13 ∷ 14 ∷ 11 ∷ 12 ∷ 9 ∷ 10 ∷ []) $ free1 ! $ free1 ! $ free1 ! $ free1 ! $ free1 ! $ free1 ! $ free1 ! $ free1 ! $ free1 ! $ free1 ! $ free1 ! $ free1 ! $ free1 ! $ free1 ! $ free1 ! $ free1 ! $ free1 ! $ free1 ! $ free1 ! $ free1 ! $ free0 ! $
+          move ! (47 ∷ 48 ∷ 45 ∷ 46 ∷ 43 ∷ 44 ∷ 41 ∷ 42 ∷ 39 ∷ 40 ∷ 37 ∷ 38 ∷ 35 ∷ 36 ∷ 33 ∷ 34 ∷ 31 ∷ 32 ∷ 29 ∷ 30 ∷ 27 ∷ 28 ∷ 25 ∷ 26 ∷ 23 ∷ 24 ∷ 21 ∷ 22 ∷ 19 ∷ 20 ∷ 17 ∷ 18 ∷ 15 ∷ 16 ∷ 13 ∷ 14 ∷ 11 ∷ 12 ∷ 9 ∷ 10 ∷ []) $ frees-all ! _ $
           by ! (ends replies 𝓤 H A κs qs s l g b f a W r (R .val r) h b″ a″ isr
           (given ∙ laws .told-step (s .now) (l .now) (g .now) (b .now) (f .now) (a .now) zero) (turned ∙ laws .state-step (s .now) (l .now) (g .now) (b .now) (f .now) (a .now) zero)
           lb (stored ∙ laws .store-step (s .now) (l .now) (g .now) (b .now) (f .now) (a .now) zero) la′ (answered ∙ laws .answer-step (s .now) (l .now) (g .now) (b .now) (f .now) (a .now) zero))))))))))))))))))))))))))
@@ -230,22 +225,10 @@ module _ (S R : Kind) (number-of : Of S ℕ) (buffer-of : Of S (List ℕ)) (told
         → Triple 𝓤 (𝓣 .C #stop) (Tests tests 𝓤 H A) → Triple 𝓤 (𝓣 .C #quiet) (Told telling 𝓤 H A) → Triple 𝓤 (𝓣 .C #step) (Turns steps 𝓤 H A)
         → Triple 𝓤 (WpFn 𝓤 H (𝓣 .C) (𝓣 .Λ) function) (Turns replies 𝓤 H A)
     reply-meets 𝓤 H A W 𝓣 known-whole known-stop known-quiet known-step =
-        meets-by replies 𝓤 H A W function 𝓣 (λ κs qs s l g b f a gl gg gb gf ga.
+        meets-by replies 𝓤 H A W function 𝓣 (λ κs qs s l g b f a gl gg gb gf ga _.
         walk 𝓤 H A W (𝓣 .C) (𝓣 .Λ) (fmOf 𝓤 H (W .laws) 𝓣) known-whole known-stop known-quiet known-step κs qs s l g b f a gl gg gb gf ga)
 
 -- ---- those of the program
-
--- what the step asks: "It is defined for all tables that break no rule but the truth of remembered pairs"
-abbrev Sound : State → (l g b f a : List ℕ) → Type 0
-Sound s l g b f a = (holdButTruth (s .tables) (s .memory) l g b ≡ true) × (34 ≤ length a)
-
-abbrev the-step : Deed state told-of
-the-step = record {
-  gives = stepOf;
-  becomes = λ s l g b f a. stepped s l g b f a .replied .state;
-  stores = λ s l g b f a. stepped s l g b f a .store;
-  answers = λ s l g b f a. stepped s l g b f a .answer;
-}
 
 the-laws : Laws state told-of stopOf stopAnswer quiet Sound the-step the-reply
 the-laws = record {
@@ -267,4 +250,4 @@ reply-spec 𝓤 H 𝓜 𝓖 𝓡 =
     (cited 𝓤 H (Reads (copies state state (all-of-it.whole (row state))) 𝓤 H (𝓖 .A)) 𝓜 𝓡 code.env whole-def.name whole-def.routine code.calls-lent·whole (whole-thm.met 𝓤 H 𝓜 𝓖 𝓡))
     (cited 𝓤 H (Tests (tests state told-of stopOf stopAnswer quiet Sound the-step the-reply) 𝓤 H (𝓖 .A)) 𝓜 𝓡 code.env stop-def.name stop-def.routine code.calls-monitor·stop (stop-thm.met 𝓤 H 𝓜 𝓖 𝓡))
     (cited 𝓤 H (Told (telling state told-of stopOf stopAnswer quiet Sound the-step the-reply) 𝓤 H (𝓖 .A)) 𝓜 𝓡 code.env quiet-def.name quiet-def.routine code.calls-monitor·quiet (quiet-thm.met 𝓤 H 𝓜 𝓖 𝓡))
-    (cited 𝓤 H (Turns (where-holds state told-of Sound the-step) 𝓤 H (𝓖 .A)) 𝓜 𝓡 code.env step-def.name step-def.routine code.calls-step·step (step-thm.met 𝓤 H 𝓜 𝓖 𝓡)))
+    (cited 𝓤 H (Turns stepping 𝓤 H (𝓖 .A)) 𝓜 𝓡 code.env step-def.name step-def.routine code.calls-step·step (step-thm.met 𝓤 H 𝓜 𝓖 𝓡)))

@@ -16,8 +16,8 @@ use ghost.Atoms.{Atoms}
 use sound.WpLaws.{FmC, fmOf}
 use contract.Running.{givenOf, tables, tablesOf}
 use types.Kit.{Given, ‵, ⋆, _$_, _∵_, !, qed, by, move, drop, rewrite}
-use types.Part.{agg, sub, whole, look-in}
-use types.Run.{look, init, forget, stop, fld, from, load, no-more, and-then, land, returns, enter, alloc1, alloc0, params1, pass1, pass0, free1, free0}
+use types.Part.{agg}
+use types.Run.{look, init, forget, stop, from, no-more, and-then, land, returns, enter, alloc1, alloc0, params1, pass1, pass0}
 use denote.Builtin.{u8}
 use denote.Laws.{Is}
 use denote.Ref.{RefT}
@@ -41,6 +41,7 @@ use Rattle.act.proofs.Asking as Ak
 use Rattle.act.proofs.Asking.Laws as Ak′
 use Rattle.act.proofs.asking_of.Symbol as asking-def
 use Rattle.act.proofs.asking_of.Met as asking-thm
+use Rattle.step.proofs.Places.{reads, frees-all}
 use Rattle.step.proofs.Seen as Se
 use Rattle.step.proofs.Seen.Laws as Se′
 use Rattle.step.proofs.StepKinds as kinds
@@ -144,19 +145,19 @@ module _ (c : Look) (#asking #sight #thread #recall : Name) where
           -- [the state; its token; the frame's token; _6 3; _5 5; _4 7; _3 9; _2 11; _1 13; _0 15]
           calls-on sights-read κ₀ q₀ x (c .thread-of y, (c .request-of y, tt)) (c .thread .val (c .thread-of y) ∷ [], (c .request .val (c .request-of y) ∷ [], tt))
           (c .asking-parts y is .0, (c .asking-parts y is .1 .1 .0, tt))
-          ! fm known-sight (λ i j. and-then ! (var ! 13 refl) (and-then ! (load ! (from ! (fld ! refl (stop !))) (look-in ! 9 (sub ! 0 refl (whole !)))) (and-then ! (load ! (from ! (fld ! refl (stop !))) (look-in ! 9 (sub ! 2 refl (whole !)))) (no-more !))))
+          ! fm known-sight (λ i j. and-then ! (var ! 13 refl) (and-then ! (reads ! 9 0 refl refl refl) (and-then ! (reads ! 9 2 refl refl refl) (no-more !))))
           (λ s e₁ is₁. land ! (from ! (stop !)) (init ! 7 refl (typed (c .sight) 𝓤 H A W s (c .sight .val s) is₁)) $
           calls-on own-read κ₀ q₀ x (c .row-of y, tt) (vint w64 (c .row-of y) ∷ [], tt) (c .asking-parts y is .1 .0, tt)
-          ! fm known-thread (λ i j. and-then ! (var ! 13 refl) (and-then ! (load ! (from ! (fld ! refl (stop !))) (look-in ! 9 (sub ! 1 refl (whole !)))) (no-more !)))
+          ! fm known-thread (λ i j. and-then ! (var ! 13 refl) (and-then ! (reads ! 9 1 refl refl refl) (no-more !)))
           (λ o e₂ is₂. land ! (from ! (stop !)) (init ! 5 refl (typed (c .own) 𝓤 H A W o (c .own .val o) is₂)) $
           calls-on recall-read κ₀ q₀ x (s, (c .request-of y, tt)) (c .sight .val s ∷ [], (c .request .val (c .request-of y) ∷ [], tt)) (is₁, (c .asking-parts y is .1 .1 .0, tt))
-          ! fm known-recall (λ i j. and-then ! (var ! 13 refl) (and-then ! (var ! 7 refl) (and-then ! (load ! (from ! (fld ! refl (stop !))) (look-in ! 9 (sub ! 2 refl (whole !)))) (no-more !))))
+          ! fm known-recall (λ i j. and-then ! (var ! 13 refl) (and-then ! (var ! 7 refl) (and-then ! (reads ! 9 2 refl refl refl) (no-more !))))
           (λ m e₃ is₃. land ! (from ! (stop !)) (init ! 3 refl (typed (c .recalled) 𝓤 H A W m (c .recalled .val m) is₃)) $
           sets ! (agg ! (and-then ! (var ! 7 refl) (and-then ! (var ! 5 refl) (and-then ! (var ! 3 refl) (no-more !))))) 15 refl
           (as-fields (ty (row (c .sight)) ∷ ty (row (c .own)) ∷ ty (row (c .recalled)) ∷ []) (c .sight .val s ∷ c .own .val o ∷ c .recalled .val m ∷ [])
           (typed (c .sight) 𝓤 H A W s _ is₁, (typed (c .own) 𝓤 H A W o _ is₂, (typed (c .recalled) 𝓤 H A W m _ is₃, tt)))) $
           returns ! (look ! 15 refl) $ forget ! 3 refl $ forget ! 5 refl $ forget ! 7 refl $ forget ! 9 refl $ forget ! 11 refl $ forget ! 13 refl $ forget ! 15 refl $
-          move ! (15 ∷ 16 ∷ 13 ∷ 14 ∷ 11 ∷ 12 ∷ 9 ∷ 10 ∷ 7 ∷ 8 ∷ 5 ∷ 6 ∷ 3 ∷ 4 ∷ []) $ free1 ! $ free1 ! $ free1 ! $ free1 ! $ free1 ! $ free1 ! $ free1 ! $ free0 ! $ drop ! $
+          move ! (15 ∷ 16 ∷ 13 ∷ 14 ∷ 11 ∷ 12 ∷ 9 ∷ 10 ∷ 7 ∷ 8 ∷ 5 ∷ 6 ∷ 3 ∷ 4 ∷ []) $ frees-all ! _ $ drop ! $
           by ! (ends S (c .seen) sees 𝓤 H A κ₀ κ₁ q₀ q₁ x f W (c .made s o m) _ (c .made-is s o m is₁ is₂ is₃)
           (λ i. let e₁′ = e₁ ∙ ap (λ (u : Value (c .asking)). c .sights (x .now) (c .thread-of u) (c .request-of u)) e in
           c .made (e₁′ i) ((e₂ ∙ ap (λ (u : Value (c .asking)). c .owns (x .now) (c .row-of u)) e) i) ((e₃ ∙ ap₂ (λ (v : Value (c .sight)) (u : Value (c .asking)). c .recalls (x .now) v (c .request-of u)) e₁′ e) i))))))))))))))

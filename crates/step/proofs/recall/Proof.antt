@@ -16,8 +16,8 @@ use ghost.Atoms.{Atoms}
 use sound.WpLaws.{FmC, fmOf}
 use contract.Running.{givenOf, tables, tablesOf}
 use types.Kit.{Given, ‵, ⋆, _$_, _∵_, !, qed, by, move, drop, rewrite}
-use types.Part.{agg, sub, whole, look-in}
-use types.Run.{look, init, forget, stop, fld, from, load, no-more, and-then, land, returns, enter, alloc1, alloc0, params1, pass1, pass0, free1, free0}
+use types.Part.{agg}
+use types.Run.{look, init, forget, stop, from, no-more, and-then, land, returns, enter, alloc1, alloc0, params1, pass1, pass0}
 use denote.Exit.{yes}
 use denote.Laws.{Is}
 use denote.Ref.{RefT}
@@ -41,6 +41,7 @@ use Rattle.act.proofs.Recalled as Re
 use Rattle.act.proofs.Recalled.Laws as Re′
 use Rattle.act.proofs.question_of.Symbol as question-def
 use Rattle.act.proofs.question_of.Met as question-thm
+use Rattle.step.proofs.Places.{reads, frees-all}
 use Rattle.step.proofs.StepKinds as kinds
 use Rattle.lent.proofs.tally.Symbol as tally-def
 use Rattle.lent.proofs.tally.Met as tally-thm
@@ -161,12 +162,12 @@ module _ (c : Recall) (#tally #question #place : Name) where
           (and-then ! (var ! 10 refl) (and-then ! (var ! 6 refl) (and-then ! (var ! 8 refl) (no-more !)))) (λ y e₁ is₁.
           land ! (from ! (stop !)) (init ! 4 refl (question-typed y is₁)) $ rewrite ! 4 (λ (u : Val). ‵ (fat fullShare question-ty l₅ 0 u)) (c .question-is y) refl $
           calls-on place-read κ q x (c .first-of y, (c .pair-of y, tt)) (vint w64 (c .first-of y) ∷ [], (vint w32 (c .pair-of y) ∷ [], tt)) (c .question-parts y is₁) ! fm known-place
-          (λ i j. and-then ! (var ! 12 refl) (and-then ! (load ! (from ! (fld ! refl (stop !))) (look-in ! 4 (sub ! 0 refl (whole !)))) (and-then ! (load ! (from ! (fld ! refl (stop !))) (look-in ! 4 (sub ! 1 refl (whole !)))) (no-more !))))
+          (λ i j. and-then ! (var ! 12 refl) (and-then ! (reads ! 4 0 refl refl refl) (and-then ! (reads ! 4 1 refl refl refl) (no-more !))))
           (λ k e₂ is₂. land ! (from ! (stop !)) (init ! 2 refl (typed word 𝓤 H A W k (word .val k) is₂)) $
           sets ! (agg ! (and-then ! (var ! 6 refl) (and-then ! (var ! 2 refl) (no-more !)))) 14 refl
           (as-fields (ty (row Ta) ∷ tyInt w64 ∷ []) (Ta .val t ∷ vint w64 k ∷ []) (typed Ta 𝓤 H A W t _ is, (typed word 𝓤 H A W k _ is₂, tt))) $
           returns ! (look ! 14 refl) $ forget ! 2 refl $ forget ! 4 refl $ forget ! 6 refl $ forget ! 8 refl $ forget ! 10 refl $ forget ! 12 refl $ forget ! 14 refl $
-          move ! (14 ∷ 15 ∷ 12 ∷ 13 ∷ 10 ∷ 11 ∷ 8 ∷ 9 ∷ 6 ∷ 7 ∷ 4 ∷ 5 ∷ 2 ∷ 3 ∷ []) $ free1 ! $ free1 ! $ free1 ! $ free1 ! $ free1 ! $ free1 ! $ free1 ! $ free0 ! $ drop ! $
+          move ! (14 ∷ 15 ∷ 12 ∷ 13 ∷ 10 ∷ 11 ∷ 8 ∷ 9 ∷ 6 ∷ 7 ∷ 4 ∷ 5 ∷ 2 ∷ 3 ∷ []) $ frees-all ! _ $ drop ! $
           by ! (ends recalls 𝓤 H A κ q x (v, (r, tt)) W (c .made t k) _ (c .made-is t k is is₂) (all t y k e e₁ e₂))))))))))))
         where
           -- what was made, where each part was what its function gives

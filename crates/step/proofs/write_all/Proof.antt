@@ -16,8 +16,7 @@ use ghost.Atoms.{Atoms}
 use sound.WpLaws.{FmC, fmOf}
 use contract.Running.{givenOf, tables, tablesOf}
 use types.Kit.{Given, ‵, ⋆, _$_, _∵_, !, qed, by, move, rewrite}
-use types.Part.{sub, whole, look-in}
-use types.Run.{look, init, store, forget, stop, fld, hop, from, load, unit-lit, of-opd, addr, no-more, and-then, land, returns, enter, alloc1, alloc0, params1, pass1, pass0, free1, free0}
+use types.Run.{look, init, store, forget, stop, hop, from, unit-lit, of-opd, addr, no-more, and-then, land, returns, enter, alloc1, alloc0, params1, pass1, pass0}
 use denote.Laws.{Is}
 use denote.Ref.{RefT, at-last}
 use denote.Struct.Laws as LL
@@ -47,6 +46,7 @@ use Rattle.lent.proofs.note.Met as note-thm
 use Rattle.lent.specs.Lent.{notePut}
 use Rattle.apply.proofs.rows.Writes as Wr
 use Rattle.apply.proofs.rows.Writes.Laws as Wr′
+use Rattle.step.proofs.Places.{reads, frees-all}
 use Rattle.step.proofs.StepKinds as kinds
 use Rattle.step.proofs.write_all as fn
 use Rattle.step.proofs.write_all.Code as code
@@ -146,19 +146,19 @@ module _ (S W R₁ R₂ R₃ C P : Kind) (u : Written W R₁ R₂ R₃ C) (put�
         rewrite ! 16 (λ (v : Val). ‵ (fat fullShare writes l₂ 0 v)) (u .val-is w) refl $
         sets ! (addr ! (from ! (hop ! (look ! 18 refl) (stop !)))) 10 refl (tt, tt) $
         calls-writer (puts-row R₁ put₁) (λ κs. (u .n₁ w, (u .r₁ w, tt))) (λ κs. (vint w64 (u .n₁ w) ∷ [], (R₁ .val (u .r₁ w) ∷ [], tt))) (λ κs. (p .0, (p .1 .0, tt))) κ q x ! fm known₁
-        (λ κs i j. and-then ! (var ! 10 refl) (and-then ! (load ! (from ! (fld ! refl (stop !))) (look-in ! 16 (sub ! 0 refl (whole !)))) (and-then ! (load ! (from ! (fld ! refl (stop !))) (look-in ! 16 (sub ! 1 refl (whole !)))) (no-more !))))
+        (λ κs i j. and-then ! (var ! 10 refl) (and-then ! (reads ! 16 0 refl refl refl) (and-then ! (reads ! 16 1 refl refl refl) (no-more !))))
         (λ κs h₁ e₁. land ! (from ! (stop !)) (init ! 12 refl (tt, tt)) $
         sets ! (addr ! (from ! (hop ! (look ! 18 refl) (stop !)))) 8 refl (tt, tt) $
         calls-writer (puts-row R₂ put₂) (λ κs. (u .n₂ w, (u .r₂ w, tt))) (λ κs. (vint w64 (u .n₂ w) ∷ [], (R₂ .val (u .r₂ w) ∷ [], tt))) (λ κs. (p .1 .1 .0, (p .1 .1 .1 .0, tt))) κ q (at-last x h₁) ! fm known₂
-        (λ κs i j. and-then ! (var ! 8 refl) (and-then ! (load ! (from ! (fld ! refl (stop !))) (look-in ! 16 (sub ! 2 refl (whole !)))) (and-then ! (load ! (from ! (fld ! refl (stop !))) (look-in ! 16 (sub ! 3 refl (whole !)))) (no-more !))))
+        (λ κs i j. and-then ! (var ! 8 refl) (and-then ! (reads ! 16 2 refl refl refl) (and-then ! (reads ! 16 3 refl refl refl) (no-more !))))
         (λ κs h₂ e₂. land ! (from ! (stop !)) (store ! 12 refl (tt, tt)) $
         sets ! (addr ! (from ! (hop ! (look ! 18 refl) (stop !)))) 6 refl (tt, tt) $
         calls-writer (puts-row R₃ put₃) (λ κs. (u .n₃ w, (u .r₃ w, tt))) (λ κs. (vint w64 (u .n₃ w) ∷ [], (R₃ .val (u .r₃ w) ∷ [], tt))) (λ κs. (p .1 .1 .1 .1 .0, (p .1 .1 .1 .1 .1 .0, tt))) κ q (at-last x h₂) ! fm known₃
-        (λ κs i j. and-then ! (var ! 6 refl) (and-then ! (load ! (from ! (fld ! refl (stop !))) (look-in ! 16 (sub ! 4 refl (whole !)))) (and-then ! (load ! (from ! (fld ! refl (stop !))) (look-in ! 16 (sub ! 5 refl (whole !)))) (no-more !))))
+        (λ κs i j. and-then ! (var ! 6 refl) (and-then ! (reads ! 16 4 refl refl refl) (and-then ! (reads ! 16 5 refl refl refl) (no-more !))))
         (λ κs h₃ e₃. land ! (from ! (stop !)) (store ! 12 refl (tt, tt)) $
         sets ! (addr ! (from ! (hop ! (look ! 18 refl) (stop !)))) 4 refl (tt, tt) $
         calls-writer (puts-part C put₄) (λ κs. (u .c w, tt)) (λ κs. (C .val (u .c w) ∷ [], tt)) (λ κs. (p .1 .1 .1 .1 .1 .1 .0, tt)) κ q (at-last x h₃) ! fm known₄
-        (λ κs i j. and-then ! (var ! 4 refl) (and-then ! (load ! (from ! (fld ! refl (stop !))) (look-in ! 16 (sub ! 6 refl (whole !)))) (no-more !)))
+        (λ κs i j. and-then ! (var ! 4 refl) (and-then ! (reads ! 16 6 refl refl refl) (no-more !)))
         (λ κs h₄ e₄. land ! (from ! (stop !)) (store ! 12 refl (tt, tt)) $
         sets ! (addr ! (from ! (hop ! (look ! 18 refl) (stop !)))) 2 refl (tt, tt) $
         calls-writer (puts-part P put₅) (λ κs. (m, tt)) (λ κs. (P .val m ∷ [], tt)) (λ κs. (gm, tt)) κ q (at-last x h₄) ! fm known₅
@@ -167,7 +167,7 @@ module _ (S W R₁ R₂ R₃ C P : Kind) (u : Written W R₁ R₂ R₃ C) (put�
         sets ! (of-opd ! (unit-lit !)) 20 refl (tt, tt) $ returns ! (look ! 20 refl) $
         forget ! 2 refl $ forget ! 4 refl $ forget ! 6 refl $ forget ! 8 refl $ forget ! 10 refl $ forget ! 12 refl $ forget ! 14 refl $ forget ! 16 refl $ forget ! 18 refl $ forget ! 20 refl $
         move ! (20 ∷ 21 ∷ 18 ∷ 19 ∷ 16 ∷ 17 ∷ 14 ∷ 15 ∷ 12 ∷ 13 ∷ 10 ∷ 11 ∷ 8 ∷ 9 ∷ 6 ∷ 7 ∷ 4 ∷ 5 ∷ 2 ∷ 3 ∷ []) $
-        free1 ! $ free1 ! $ free1 ! $ free1 ! $ free1 ! $ free1 ! $ free1 ! $ free1 ! $ free1 ! $ free1 ! $ free0 ! $
+        frees-all ! _ $
         by ! (ends puts-all 𝓤 H A κ q x (w, (m, tt)) G h₅ (e₅ ∙ ap (λ (h : Value S). put₅ h m) (e₄ ∙ ap (λ (h : Value S). put₄ h (u .c w)) (e₃ ∙ ap (λ (h : Value S). put₃ h (u .n₃ w) (u .r₃ w))
         (e₂ ∙ ap (λ (h : Value S). put₂ h (u .n₂ w) (u .r₂ w)) e₁))))))))))))))))))))
 

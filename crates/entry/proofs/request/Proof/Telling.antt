@@ -30,7 +30,7 @@ use Rattle.step.proofs.Stepped.Laws as Sp′
 use Rattle.entry.proofs.Reply as Rp
 use Rattle.entry.proofs.Reply.Laws as Rp′
 use Rattle.entry.proofs.OverRecords.{given}
-use Rattle.entry.proofs.request.Proof.Places.{reads}
+use Rattle.step.proofs.Places.{reads}
 
 -- ---- what is told: its machine type, with that of a change, and its machine value
 abbrev pub toldTy : Sym → Ty → Ty

@@ -1,4 +1,4 @@
--- What lies in a function's locals, as the walk of `request` reads it, and how the locals are freed.
+-- What lies in a function's locals, as the walks read it, and how the locals are freed.
 --     at               a local is read.        reads        a field of a struct in a local is read
 --     pointer-of, slice-of     a reference to a slice is lent on: its pointer is taken anew, and the slice is made of that and the count
 --     rooms, frees-all         locals of which nothing is had but room, and that they are freed
