@@ -10,16 +10,12 @@ use Rattle.act.proofs.Recalled as Re
 use Rattle.act.proofs.Recalled.Laws as Re′
 use Rattle.frames.proofs.requests.Request as Rq
 use Rattle.frames.proofs.requests.Request.Laws as Rq′
-use Rattle.memory.proofs.Tally as Ta
-use Rattle.memory.proofs.Tally.Laws as Ta′
 use Rattle.numbers.proofs.Thread as Th
 use Rattle.numbers.proofs.Thread.Laws as Th′
 use Rattle.outcomes.proofs.ListChange as Ch
 use Rattle.outcomes.proofs.ListChange.Laws as Ch′
 use Rattle.sight.proofs.Sight as Si
 use Rattle.sight.proofs.Sight.Laws as Si′
-use Rattle.memory.proofs.Note as No
-use Rattle.memory.proofs.Note.Laws as No′
 use Rattle.apply.proofs.rows.Writes as Wr
 use Rattle.apply.proofs.rows.Writes.Laws as Wr′
 use Rattle.lent.proofs.Plain.{Kind, of-field}
@@ -40,9 +36,6 @@ asking = of-field Ak.the-field refl Ak′.the-field-laws Ak′.the-field-copy Ak
 abbrev pub sight : Kind
 sight = of-field Si.the-field refl Si′.the-field-laws Si′.the-field-copy Si′.the-field-plain
 
-abbrev pub tally : Kind
-tally = of-field Ta.the-field refl Ta′.the-field-laws Ta′.the-field-copy Ta′.the-field-plain
-
 abbrev pub question : Kind
 question = of-field Qu.the-field refl Qu′.the-field-laws Qu′.the-field-copy Qu′.the-field-plain
 
@@ -51,9 +44,6 @@ recalled = of-field Re.the-field refl Re′.the-field-laws Re′.the-field-copy 
 
 abbrev pub seen : Kind
 seen = of-field Se.the-field refl Se′.the-field-laws Se′.the-field-copy Se′.the-field-plain
-
-abbrev pub note : Kind
-note = of-field No.the-field refl No′.the-field-laws No′.the-field-copy No′.the-field-plain
 
 abbrev pub change : Kind
 change = of-field Ch.the-field refl Ch′.the-field-laws Ch′.the-field-copy Ch′.the-field-plain

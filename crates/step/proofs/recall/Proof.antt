@@ -43,6 +43,7 @@ use Rattle.act.proofs.question_of.Symbol as question-def
 use Rattle.act.proofs.question_of.Met as question-thm
 use Rattle.step.proofs.Places.{reads, frees-all}
 use Rattle.step.proofs.StepKinds as kinds
+use Rattle.lent.proofs.Tallying as Tallying
 use Rattle.lent.proofs.tally.Symbol as tally-def
 use Rattle.lent.proofs.tally.Met as tally-thm
 use Rattle.lent.proofs.place_of.Symbol as place-def
@@ -190,7 +191,7 @@ recall = record {
   state = state;
   sight = kinds.sight;
   request = kinds.request;
-  tally = kinds.tally;
+  tally = Tallying.tally;
   question = kinds.question;
   recalled = kinds.recalled;
   tallies = λ h. tallyOf (h .memory);
@@ -216,5 +217,5 @@ recall-spec 𝓤 H 𝓜 𝓖 𝓡 =
     code.env fn.Key.name code.function (code.unfolded 𝓤 H 𝓜 𝓡)
     (recall-meets recall tally-def.name question-def.name place-def.name 𝓤 H (𝓖 .A) (givenOf 𝓤 H 𝓜 𝓖) (tablesOf 𝓤 H 𝓜 (tables 𝓤 H 𝓜 𝓡 code.env))
     (cited 𝓤 H (Reads (tally-read recall tally-def.name question-def.name place-def.name) 𝓤 H (𝓖 .A)) 𝓜 𝓡 code.env tally-def.name tally-def.routine calls-tally (tally-thm.met 𝓤 H 𝓜 𝓖 𝓡))
-    (cited 𝓤 H (Told (of-three kinds.sight kinds.tally kinds.request kinds.question questionOf) 𝓤 H (𝓖 .A)) 𝓜 𝓡 code.env question-def.name question-def.routine code.calls-act·question-of (question-thm.met 𝓤 H 𝓜 𝓖 𝓡))
+    (cited 𝓤 H (Told (of-three kinds.sight Tallying.tally kinds.request kinds.question questionOf) 𝓤 H (𝓖 .A)) 𝓜 𝓡 code.env question-def.name question-def.routine code.calls-act·question-of (question-thm.met 𝓤 H 𝓜 𝓖 𝓡))
     (cited 𝓤 H (Reads (place-read recall tally-def.name question-def.name place-def.name) 𝓤 H (𝓖 .A)) 𝓜 𝓡 code.env place-def.name place-def.routine calls-place (place-thm.met 𝓤 H 𝓜 𝓖 𝓡)))

@@ -28,6 +28,7 @@ use denote.Triple.Spec.{tripleOf}
 use denote.Triple.Statement.{Triple}
 use denote.Triple.Table.{entered, cited}
 use Rattle.records.proofs.Steps.{var, sets}
+use Rattle.lent.proofs.Noting as Noting
 use Rattle.lent.proofs.Calling.{calls-writer}
 use Rattle.lent.proofs.Plain.{Kind, Value, row, ty, far, word, number, typed, cell-out, cell-in}
 use Rattle.lent.proofs.Writing.{Writer, Writes, opens, closes}
@@ -302,7 +303,7 @@ steps = record {
   seen = kinds.seen;
   act = acting;
   writes = kinds.writes;
-  note = kinds.note;
+  note = Noting.note;
   change = kinds.change;
   result = told-of;
   sees = seenOf;

@@ -41,6 +41,7 @@ use Rattle.lent.proofs.put_object.Symbol as object-def
 use Rattle.lent.proofs.put_object.Met as object-thm
 use Rattle.lent.proofs.put_counts.Symbol as counts-def
 use Rattle.lent.proofs.put_counts.Met as counts-thm
+use Rattle.lent.proofs.Noting.{note, noting}
 use Rattle.lent.proofs.note.Symbol as note-def
 use Rattle.lent.proofs.note.Met as note-thm
 use Rattle.lent.specs.Lent.{notePut}
@@ -205,9 +206,6 @@ object-put = row-put state object 64 of-state.objects
 abbrev counts-put : Writer
 counts-put = recounting state of-state.principals of-state.links of-state.tags of-state.grants
 
-abbrev note-put : Writer
-note-put = record { on = state; more = kinds.note ∷ []; becomes = λ κs h a. notePut h (a .0) }
-
 -- what they do to a state
 module _ (h : Value state) where
   abbrev put-thread : ℕ → Value thread → Value state
@@ -222,21 +220,21 @@ module _ (h : Value state) where
   abbrev put-counts : Value counts → Value state
   put-counts c = counts-put .becomes ([], tt) h (c, tt)
 
-  abbrev put-note : Value kinds.note → Value state
+  abbrev put-note : Value note → Value state
   put-note n = notePut h n
 
 abbrev writer : Writer
-writer = puts-all state kinds.writes thread tag object counts kinds.note writes-parts put-thread put-tag put-object put-counts put-note thread-def.name tag-def.name object-def.name counts-def.name note-def.name
+writer = puts-all state kinds.writes thread tag object counts note writes-parts put-thread put-tag put-object put-counts put-note thread-def.name tag-def.name object-def.name counts-def.name note-def.name
 
 pub write-all-spec : {M : Type 1} → fn.Statement.statement M
 unfolding code.routine tablesOf
 write-all-spec 𝓤 H 𝓜 𝓖 𝓡 =
     stated 𝓤 H 𝓜 𝓖 𝓡 (ended writer) (promise writer 𝓤) (λ κs a. fn.clauses 𝓤 H (𝓖 .A) (𝓜 .mem) (𝓡 .run) κs a .ensures tt) (λ κs a r e X is. is)
     code.env fn.Key.name code.function (code.unfolded 𝓤 H 𝓜 𝓡)
-    (all-meets state kinds.writes thread tag object counts kinds.note writes-parts put-thread put-tag put-object put-counts put-note thread-def.name tag-def.name object-def.name counts-def.name note-def.name
+    (all-meets state kinds.writes thread tag object counts note writes-parts put-thread put-tag put-object put-counts put-note thread-def.name tag-def.name object-def.name counts-def.name note-def.name
     𝓤 H (𝓖 .A) (givenOf 𝓤 H 𝓜 𝓖) (tablesOf 𝓤 H 𝓜 (tables 𝓤 H 𝓜 𝓡 code.env))
     (cited 𝓤 H (Writes thread-put 𝓤 H (𝓖 .A)) 𝓜 𝓡 code.env thread-def.name thread-def.routine code.calls-lent·put-thread (thread-thm.met 𝓤 H 𝓜 𝓖 𝓡))
     (cited 𝓤 H (Writes tag-put 𝓤 H (𝓖 .A)) 𝓜 𝓡 code.env tag-def.name tag-def.routine code.calls-lent·put-tag (tag-thm.met 𝓤 H 𝓜 𝓖 𝓡))
     (cited 𝓤 H (Writes object-put 𝓤 H (𝓖 .A)) 𝓜 𝓡 code.env object-def.name object-def.routine code.calls-lent·put-object (object-thm.met 𝓤 H 𝓜 𝓖 𝓡))
     (cited 𝓤 H (Writes counts-put 𝓤 H (𝓖 .A)) 𝓜 𝓡 code.env counts-def.name counts-def.routine code.calls-lent·put-counts (counts-thm.met 𝓤 H 𝓜 𝓖 𝓡))
-    (cited 𝓤 H (Writes note-put 𝓤 H (𝓖 .A)) 𝓜 𝓡 code.env note-def.name note-def.routine code.calls-lent·note (note-thm.met 𝓤 H 𝓜 𝓖 𝓡)))
+    (cited 𝓤 H (Writes noting 𝓤 H (𝓖 .A)) 𝓜 𝓡 code.env note-def.name note-def.routine code.calls-lent·note (note-thm.met 𝓤 H 𝓜 𝓖 𝓡)))
