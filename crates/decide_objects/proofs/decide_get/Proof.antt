@@ -21,4 +21,4 @@ decide-get-spec =
     (λ c κs. search needs)
     (λ c κs. search needs)
     (λ c κs. search needs)
-    (λ c. skip _ (subst (λ (n : ℕ). ltb n 1 ≡ false) (c .before .before .before .before .held-of .ensures) (le-ltb (c .before .before .before .before .held-of .result) 1 (c .before .before .before .if1 .left))) cc))
+    (λ c. skip _ (subst (λ (n : ℕ). ltb n 1 ≡ false) (c .before .before .before .before .held-of .ensures) (le-ltb (c .before .before .before .before .held-of .result) 1 (c .before .before .before .if1 .left))) (rw (c .before .now-is .ensures, c .before .before .place-at .ensures, c .before .before .before .before .held-of .ensures) at (c .object-changed .ensures))))

@@ -19,4 +19,4 @@ decide-lock-spec =
     (λ c κs. search needs)
     (λ c κs. search needs)
     (λ c.
-    skip _ (by-yes (c .before .before .before .is-locked .ensures ∙ ap isLocked (c .before .before .before .before .what-of .ensures)) (c .before .before .if1 .left)) cc))
+    skip _ (by-yes (c .before .before .before .is-locked .ensures ∙ ap isLocked (c .before .before .before .before .what-of .ensures)) (c .before .before .if1 .left)) (rw (c .before .now-is .ensures) at (c .rows-changed .ensures))))

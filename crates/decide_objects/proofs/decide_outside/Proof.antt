@@ -11,5 +11,5 @@ decide-outside-spec =
     (λ c κs. search needs)
     (λ c. search needs)
     (λ c κs. search needs)
-    (λ c. rw (c .before .before .r .given .1) cc)
-    (λ c. rw (c .before .before .r2 .given .1) cc))
+    (λ c. rw (c .before .before .r .given .1) (c .rows-changed .ensures))
+    (λ c. rw (c .before .before .r2 .given .1) (c .rows-changed2 .ensures)))

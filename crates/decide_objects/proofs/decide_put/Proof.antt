@@ -22,4 +22,4 @@ decide-put-spec =
     (λ c. search needs)
     (λ c κs. search needs)
     (λ c κs. search needs)
-    (λ c. skip _ (subst (λ (n : ℕ). leb 8 n ≡ false) (c .before .before .before .before .held-of .ensures) (lt-leb 8 (c .before .before .before .before .held-of .result) (c .before .before .before .if1 .left))) cc))
+    (λ c. skip _ (subst (λ (n : ℕ). leb 8 n ≡ false) (c .before .before .before .before .held-of .ensures) (lt-leb 8 (c .before .before .before .before .held-of .result) (c .before .before .before .if1 .left))) (rw (c .before .now-is .ensures, c .before .before .place-at .ensures, c .before .before .before .before .held-of .ensures) at (c .object-changed .ensures))))

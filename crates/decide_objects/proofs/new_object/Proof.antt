@@ -17,4 +17,4 @@ new-object-spec =
     (λ c κs. search needs)
     (λ c. search needs)
     (λ c κs. search needs)
-    (λ c. skip _ (lt-leb (64) (c .before .before .before .before .args .s .free) (c .before .before .before .if1 .left)) cc))
+    (λ c. skip _ (lt-leb (64) (c .before .before .before .before .args .s .free) (c .before .before .before .if1 .left)) (rw (c .before .object-row-of .ensures, c .before .before .empty-of .ensures) at (c .rows-changed .ensures))))

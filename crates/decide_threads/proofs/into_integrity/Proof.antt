@@ -17,4 +17,4 @@ into-integrity-spec =
     (λ c. skip _ (by-yes (c .before .before .before .has .ensures) (c .before .before .if1 .left)) (hit _ (c .before .if2 .taken) (c .refused .ensures)))
     (λ c κs. search needs)
     (λ c κs. search needs)
-    (λ c. skip _ (by-yes (c .before .before .before .before .has .ensures) (c .before .before .before .if1 .left)) (skip _ (c .before .before .if2 .left) cc)))
+    (λ c. skip _ (by-yes (c .before .before .before .before .has .ensures) (c .before .before .before .if1 .left)) (skip _ (c .before .before .if2 .left) (rw (c .before .with .ensures) at (c .with-labels .ensures)))))

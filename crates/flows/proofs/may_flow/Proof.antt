@@ -10,4 +10,4 @@ may-flow-spec =
     (λ c κs. search needs)
     (λ c κs. search needs)
     (λ c κs. search needs)
-    (λ c. cc))
+    (λ c. rw (c .tests-more .ensures, c .before .meets .ensures, c .before .before .need-of .ensures)))

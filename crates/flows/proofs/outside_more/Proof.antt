@@ -11,4 +11,4 @@ outside-more-spec =
     (λ c. search needs)
     (λ c κs. search needs)
     (λ c. rw (c .enum-told .given .1))
-    (λ c. rw (c .before .enum-told2 .given .1) cc))
+    (λ c. rw (c .before .enum-told2 .given .1) (c .is-empty .ensures)))

@@ -15,5 +15,5 @@ tests-more-spec =
     (λ c κs. search needs)
     (λ c. rw (c .enum-told .given .1))
     (λ c. rw (c .enum-told2 .given .1))
-    (λ c. rw (c .before .before .r .given .1) cc)
-    (λ c. rw (c .before .before .r2 .given .1) cc))
+    (λ c. rw (c .before .before .r .given .1) (c .object-more .ensures))
+    (λ c. rw (c .before .before .r2 .given .1) (c .outside-more .ensures)))

@@ -4,4 +4,4 @@ use Rattle.sight.proofs.caller_in.Statement.{statement}
 use Rattle.sight.proofs.caller_in.Tie as tie
 
 pub caller-in-spec : {M : Type 1} → statement M
-caller-in-spec = tie.close (tie.spec (λ c κs. search needs) (λ c. cc))
+caller-in-spec = tie.close (tie.spec (λ c κs. search needs) (λ c. rw (c .is-live .ensures)))

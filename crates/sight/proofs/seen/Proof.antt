@@ -10,4 +10,4 @@ seen-spec =
     (λ c κs. search needs)
     (λ c κs. search needs)
     (λ c κs. search needs)
-    (λ c. cc))
+    (λ c. rw (c .lineage-in .ensures, c .before .tag-named .ensures, c .before .before .caller-in .ensures)))

@@ -23,4 +23,5 @@ label-at-spec =
     (λ c. search needs)
     (λ c κs. search needs)
     (λ c κs. search needs)
-    (λ c. cc))
+    (λ c.
+    rw (c .before .byte-at8 .ensures, c .before .before .byte-at7 .ensures, c .before .before .before .byte-at6 .ensures, c .before .before .before .before .byte-at5 .ensures, c .before .before .before .before .before .byte-at4 .ensures, c .before .before .before .before .before .before .byte-at3 .ensures, c .before .before .before .before .before .before .before .byte-at2 .ensures, c .before .before .before .before .before .before .before .before .byte-at .ensures) at (c .from-bytes .ensures)))

@@ -10,4 +10,4 @@ labels-at-spec =
     (λ c κs. search needs)
     (λ c. search needs)
     (λ c κs. search needs)
-    (λ c. cc))
+    (λ c. rw (c .label-at2 .ensures, c .before .label-at .ensures)))
