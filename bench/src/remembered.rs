@@ -7,7 +7,7 @@ use crate::authority::case::{asked, Case, SIZES};
 use crate::passes::{less, Frame, Pass, Split};
 use crate::proved::Proved;
 use crate::questions::{answer, Question};
-use crate::rounds::{by_turns, hidden, time, Work, SHORT};
+use crate::rounds::{by_turns, hidden, time, Work, MANY};
 use bench::report::{Goal, Measured, Report, Row, Section, Told};
 use second::kinds::{AUTHORITATIVE, OUT_OF_INTEGRITY};
 use second::memory::Memory;
@@ -58,7 +58,7 @@ fn rows(case: &Case) -> io::Result<Vec<Row>> {
     rows.extend([
         whole,
         check,
-        behind.beside(&hit.split.rest).with_goal(goal),
+        behind.beside(&hit.split.rest),
         itself.beside(&hit.itself).with_goal(goal),
         Row::new(ALONE, alone).proved().beside(&hit.itself),
     ]);
@@ -88,7 +88,7 @@ fn took(case: &Case) -> io::Result<(Took, Took, Measured)> {
                 all: &mut || questions.iter().all(alone),
             },
         ],
-        SHORT,
+        MANY,
     )?;
     let hit = Took::of(hit, hit_check, &hit_silent);
     let walk = Took::of(walk, walk_check, &walk_silent);
@@ -193,9 +193,10 @@ const NOTE: &str =
      time the one that was asked longest ago. *Walk*: a memory of size 0, the same questions. The \
      check of 9 is taken off as above; it walks for each remembered pair, and so takes longer with \
      8 held than with none. *Question itself* is what 09 takes more than 0D of the same tag by the \
-     same thread, which asks nothing and changes nothing: the rest of a request is alike. *Walk \
-     alone* is the proved walk of `links_c` on the same questions, beside the hit's question \
-     itself.";
+     same thread, which asks nothing and changes nothing: the rest of a request is alike; the goal \
+     is set for it. It is seen as the difference of two times of which the check is nearly all, so \
+     here there are 4,000 rounds. *Walk alone* is the proved walk of `links_c` on the same \
+     questions, beside the hit's question itself.";
 
 #[cfg(test)]
 mod tests {

@@ -26,6 +26,12 @@ pub const SHORT: Pace = Pace {
     least: Duration::from_millis(1),
 };
 
+/// As many of them as it takes to see a hit behind a check of 9 two hundred times as long.
+pub const MANY: Pace = Pace {
+    rounds: 4000,
+    ..SHORT
+};
+
 /// Work to be measured: one call of `all` does so many pieces of it, and says whether
 /// they came out as they should.
 pub struct Work<'a> {
