@@ -57,10 +57,6 @@ module _ (s : Sight) (l g : List ℕ) (r : Request) where
   abbrev pub askedIf : Bool → Memory → Asked
   askedIf asking m = cond asking (answered m pairAsked walked) (record { yes = false; memory = m })
 
-  -- past 2, 3 and 4: the question, where there is one, and the kind's row
-  abbrev pub rowFollowed : Memory → Considered
-  rowFollowed m = record { outcome = decide s l g r (askedIf (asks s r) m .yes); memory = askedIf (asks s r) m .memory }
-
 -- ---- the request of frame f that sees s, with principal links l and tag links g
 
 module _ (s : Sight) (l g f : List ℕ) where

@@ -21,7 +21,7 @@ use Rattle.lent.proofs.Parts.{Path, then, field-at, as-array}
 abbrev pub state : Kind
 state = of-field S.the-field refl S′.the-field-laws S′.the-field-copy S′.the-field-plain
 
-abbrev pub remembered : Kind
+abbrev remembered : Kind
 remembered = of-field M.the-field refl M′.the-field-laws M′.the-field-copy M′.the-field-plain
 
 abbrev pub thread : Kind
@@ -33,7 +33,7 @@ tag = of-field Tg.the-field refl Tg′.the-field-laws Tg′.the-field-copy Tg′
 abbrev pub object : Kind
 object = of-field Ob.the-field refl Ob′.the-field-laws Ob′.the-field-copy Ob′.the-field-plain
 
-abbrev pub memory : Path (row state) (row remembered)
+abbrev memory : Path (row state) (row remembered)
 memory = field-at S.struct S.propositions S′.the-laws (λ v. tt) 1 refl refl
 
 abbrev pub size : Path (row state) (row word)

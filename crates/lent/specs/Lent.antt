@@ -1,7 +1,6 @@
 -- Parts of a state, read and replaced. A row's number past the last replaces nothing: `set` leaves a list alone past its end. Assumes nothing.
 use Prim.Native.Nat.{ℕ}
 use lib.ListN.{set}
-use Rattle.memory.specs.declared.Memory.{Memory}
 use Rattle.memory.specs.declared.Note.{Note}
 use Rattle.memory.specs.Notes.{noted}
 use Rattle.tables.specs.declared.Tables.{Tables}
@@ -14,16 +13,13 @@ use Rattle.lent.specs.declared.Counts.{Counts}
 abbrev pub countsOf : Tables → Counts
 countsOf t = record { principals = t .principals; links = t .links; tags = t .tags; grants = t .grants }
 
--- the state with other tables, and with another memory
+-- the state with other tables
 abbrev pub tablesPut : State → Tables → State
 tablesPut s t = record { tables = t; memory = s .memory }
 
-abbrev pub memoryPut : State → Memory → State
-memoryPut s m = record { tables = s .tables; memory = m }
-
 -- with n written into its memory
 abbrev pub notePut : State → Note → State
-notePut s n = memoryPut s (noted (s .memory) n)
+notePut s n = record { tables = s .tables; memory = noted (s .memory) n }
 
 -- with row n of a table replaced
 module _ (s : State) where

@@ -10,8 +10,7 @@ ghost use lib.ListN.{getD, take};
 ghost use Rattle.tables.specs.Things.{noThread, tagAt, objectAt};
 ghost use Rattle.state.specs.Start.{cleared};
 ghost use Rattle.memory.specs.Notes.{tallyOf, placeIn};
-ghost use Rattle.lent.specs.Lent.{countsOf, threadPut, tagPut, objectPut, countsPut, memoryPut, notePut};
-use memory::Memory;
+ghost use Rattle.lent.specs.Lent.{countsOf, threadPut, tagPut, objectPut, countsPut, notePut};
 use memory::Note;
 use memory::Tally;
 use numbers::OBJECTS;
@@ -104,12 +103,6 @@ pub fn objects(s: &State) -> [ObjectRow; 64]
     s.tables.objects
 }
 
-pub fn memory(s: &State) -> Memory
-    ensures { λ r. ⌜ r ≡ now (s .entry) .memory ⌝ }
-{
-    s.memory
-}
-
 // A copy of all of it, for the check of 9.
 pub fn whole(s: &State) -> State
     ensures { λ r. ⌜ r ≡ now (s .entry) ⌝ }
@@ -152,12 +145,6 @@ pub fn put_counts(s: &mut State, c: Counts)
     s.tables.grants = c.grants;
 }
 
-pub fn put_memory(s: &mut State, m: Memory)
-    ensures { λ _. ⌜ now (s .exit) ≡ memoryPut (now (s .entry)) m ⌝ }
-{
-    s.memory = m;
-}
-
 // The memory's numbers and pairs, as a note of them says.
 pub fn note(s: &mut State, n: Note)
     ensures { λ _. ⌜ now (s .exit) ≡ notePut (now (s .entry)) n ⌝ }
@@ -178,6 +165,6 @@ pub fn put_whole(s: &mut State, t: State)
 pub fn forget(s: &mut State)
     ensures { λ _. ⌜ now (s .exit) ≡ cleared (now (s .entry)) ⌝ }
 {
-    let m = memory(s);
-    put_memory(s, memory::clear(m));
+    let t = tally(s);
+    note(s, memory::forgotten(t));
 }

@@ -16,10 +16,10 @@ use Rattle.links.specs.declared.lists.Found.the-variants.{At, Nothing}
 use Rattle.links.specs.Links.{findIn}
 use Rattle.memory.specs.declared.Memory.{Memory}
 use Rattle.memory.specs.declared.Note.{Note}
-use Rattle.memory.specs.Remembered.{Fits, heldPairs, counted, remembered, emptied, answered, withFront}
+use Rattle.memory.specs.Remembered.{Fits, heldPairs, counted, remembered, emptied, answered}
 use Rattle.memory.specs.Notes.{tallyOf, placeOf, placeIn, renewed, noted, asIs, wiped, counting, brought, judged}
 use Rattle.memory.proofs.NoteLaws.{renewed-front}
-use Rattle.memory.proofs.Front.{found-at, moved, added, pushed, nothing}
+use Rattle.memory.proofs.Front.{withFront, found-at, moved, added, pushed, nothing}
 
 -- counting changes no pair
 pub counted-fits : (m : Memory) (held : Bool) → Fits m → Fits (counted m held)
@@ -84,3 +84,7 @@ stays m = refl
 pub empties : (m : Memory) (n : Note) → noted m (wiped n) ≡ emptied (noted m n)
 unfolding renewed
 empties m n = refl
+
+-- "The host may clear the memory between requests"
+pub forgets : (m : Memory) → noted m (wiped (asIs (tallyOf m))) ≡ emptied m
+forgets m = empties m (asIs (tallyOf m)) ∙ ap emptied (stays m)

@@ -15,7 +15,7 @@ use Rattle.numbers.proofs.Bools.{either}
 use Rattle.links.specs.declared.lists.Found.the-variants.{At, Nothing}
 use Rattle.links.specs.Links.{findFrom, findIn}
 use Rattle.memory.specs.declared.Memory.{Memory}
-use Rattle.memory.specs.Remembered.{heldPairs, without, remembered, slid, withFront}
+use Rattle.memory.specs.Remembered.{heldPairs, without, remembered, slid}
 
 -- ---- a pair that is found, and one that is not
 
@@ -63,6 +63,10 @@ found-none i (y ∷ l) x e =
     (either (eqb y x))
 
 -- ---- the four cases
+
+-- so many pairs are held, the first k of the old ones after x
+abbrev pub withFront : Memory → ℕ → ℕ → ℕ → Memory
+withFront m held k x = record { size = m .size; held = held; pairs = slid k x (m .pairs); questions = m .questions; hits = m .hits }
 
 module _ (m : Memory) (x : ℕ) (within : m .held ≤ m .size) (fits : m .size ≤ length (m .pairs)) where
   abbrev held : List ℕ

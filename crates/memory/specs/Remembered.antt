@@ -67,6 +67,3 @@ answered m x walk =
 -- the first k places moved on by one, and x before them
 abbrev pub slid : ℕ → ℕ → List ℕ → List ℕ
 slid k x p = x ∷ (take k p ++ drop (suc k) p)
-
-abbrev pub withFront : Memory → ℕ → ℕ → ℕ → Memory
-withFront m held k x = record { size = m .size; held = held; pairs = slid k x (m .pairs); questions = m .questions; hits = m .hits }

@@ -10,7 +10,7 @@ ghost use Rattle.numbers.specs.Numbers.{mostRemembered};
 ghost use Rattle.links.specs.declared.lists.Graph.the-variants.{Principals};
 ghost use Rattle.links.specs.Links.{linksIn};
 ghost use Rattle.links.specs.Authority.{authoritative};
-ghost use Rattle.memory.specs.Remembered.{pairOf, emptied, slid};
+ghost use Rattle.memory.specs.Remembered.{pairOf, slid};
 ghost use Rattle.memory.specs.Notes.{placeIn, renewed, asIs, wiped, counting, brought, judged};
 use links::Found;
 use links::Lineage;
@@ -61,19 +61,6 @@ pub fn pair_of(p: Principal, t: Tag) -> u32
     ensures { λ r. ⌜ r ≡ pairOf p t ⌝ }
 {
     p.0 as u32 * 256 + t.0 as u32
-}
-
-// No pair is held; size and counters stay. "The host may clear the memory between requests".
-pub fn clear(m: Memory) -> Memory
-    ensures { λ r. ⌜ r ≡ emptied m ⌝ }
-{
-    Memory {
-        size: m.size,
-        held: 0,
-        pairs: [0; 64],
-        questions: m.questions,
-        hits: m.hits,
-    }
 }
 
 // ---- the pairs, where they lie
@@ -144,6 +131,13 @@ pub fn wiped(n: Note) -> Note
         pair: 0,
         clear: true,
     }
+}
+
+// "The host may clear the memory between requests; this leaves the counters."
+pub fn forgotten(t: Tally) -> Note
+    ensures { λ r. ⌜ r ≡ wiped (asIs t) ⌝ }
+{
+    wiped(as_is(t))
 }
 
 // A question is counted; so many pairs are held then, with so many hits, and this pair comes to the front from here.
