@@ -9,14 +9,14 @@ use crate::labels::Label;
 
 // The two labels of a thread, S and I, or of an object, s and i.
 #[repr(C)]
-#[derive(Drop)]
+#[derive(Clone, Copy)]
 pub struct LabelPair {
     pub secrecy: Label,
     pub integrity: Label,
 }
 
 // "Which of null, read, write or both a kind needs."
-#[derive(Drop)]
+#[derive(Clone, Copy)]
 pub enum Need {
     None,
     Null,

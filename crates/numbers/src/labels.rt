@@ -19,7 +19,7 @@ ghost use Rattle.numbers.specs.LabelBytes.{number_of, label_of_bytes, bytes_of_l
 use crate::{TAGS, Tag};
 
 #[repr(C)]
-#[derive(Drop)]
+#[derive(Clone, Copy)]
 pub struct Label(pub u64);
 
 impl Label {

@@ -2,6 +2,8 @@
 //
 // A principal number is never accepted where a tag, thread or object number is meant: each of the
 // four is a type of its own. A number here is any byte; whether it is made is for the tables to say.
+#![tactic(auto)]
+
 ghost use Rattle.std.specs.Prelude.{◌≡◌};
 ghost use Rattle.numbers.specs.Numbers.{one_more};
 
@@ -12,17 +14,17 @@ pub use flow::{LabelPair, Need};
 pub use labels::Label;
 
 #[repr(C)]
-#[derive(Drop)]
+#[derive(Clone, Copy)]
 pub struct Principal(pub u8);
 
 #[repr(C)]
-#[derive(Drop)]
+#[derive(Clone, Copy)]
 pub struct Tag(pub u8);
 
-#[derive(Drop)]
+#[derive(Clone, Copy)]
 pub struct Thread(pub u8);
 
-#[derive(Drop)]
+#[derive(Clone, Copy)]
 pub struct Object(pub u8);
 
 // "Number 0 is the public, 1 is the office."
