@@ -4,6 +4,8 @@
 // told, and whoever holds them changes them (crates `step` and `monitor`).
 //
 // What is decided sees only the answer to the question, not the memory; and nothing is changed before all is decided.
+#![tactic(auto)]
+
 ghost use Rattle.std.specs.Prelude.{◌≡◌, ◌≤◌, length};
 ghost use Rattle.numbers.specs.Numbers.{most_remembered};
 ghost use Rattle.memory.specs.Notes.{as_is};
@@ -30,7 +32,7 @@ use sight::{Sight, tag_named};
 use tables::rows::ThreadRow;
 
 // What a frame asks: of which thread, and which row of the tables that is, and the request.
-#[derive(Drop)]
+#[derive(Clone, Copy)]
 pub struct Asking {
     pub thread: Thread,
     pub row: usize,
@@ -51,7 +53,7 @@ pub fn asking_of(frame: &[u8]) -> Asking
 }
 
 // Which pair the memory is asked about, and among how many of its first: of a request that asks for no authority, none.
-#[derive(Drop)]
+#[derive(Clone, Copy)]
 pub struct Question {
     pub first: usize,
     pub pair: u32,
@@ -73,14 +75,14 @@ pub fn question_of(s: Sight, t: Tally, r: Request) -> Question
 }
 
 // What a request knows of the memory: its numbers, and the place of the pair that it asks about.
-#[derive(Drop)]
+#[derive(Clone, Copy)]
 pub struct Recalled {
     pub tally: Tally,
     pub place: usize,
 }
 
 // What a request comes to, and what its question leaves to write into the memory.
-#[derive(Drop)]
+#[derive(Clone, Copy)]
 struct Weighed {
     pub outcome: Outcome,
     pub note: Note,
@@ -88,7 +90,7 @@ struct Weighed {
 
 // What a request gives beside the lent buffers: its number or 0, how many bytes of the answer buffer were written, what
 // is to change in the lists of links, and what is to be written into the state.
-#[derive(Drop)]
+#[derive(Clone, Copy)]
 pub struct Acted {
     pub status: u8,
     pub written: usize,

@@ -3,13 +3,15 @@
 // after its length byte; the rest of the buffer stays. A refusal writes its one byte".
 //
 // 10 writes nothing, so it is no answer here; 11 is told at the start only.
+#![tactic(auto)]
+
 ghost use Rattle.std.specs.Prelude.{◌≡◌, ◌∷◌, ◌≤◌, length};
 ghost use Rattle.answers.specs.Answers.{refusal_number, status_of, length_of, front, answer_bytes, Ready};
 
 use frames::requests::Span;
 
 // Refusals 1 to 9, in order of check.
-#[derive(Drop)]
+#[derive(Clone, Copy)]
 pub enum Refusal {
     Malformed,
     NotLive,
@@ -23,7 +25,7 @@ pub enum Refusal {
 }
 
 // A message is kept at a place of the store, or was given in the frame.
-#[derive(Drop)]
+#[derive(Clone, Copy)]
 pub enum Answer {
     Refused(Refusal),
     Done,

@@ -1,6 +1,8 @@
 // What a decision's changes do to the store, the rows and the counts of links (01, "Requests", the column "done").
 // Nothing is tested here: `decide` has seen to it that there is room. The lists of links are changed by whoever
 // holds them (crate `records`).
+#![tactic(auto)]
+
 pub mod rows;
 
 ghost use Rattle.std.specs.Prelude.{◌≡◌};

@@ -9,7 +9,7 @@ use outcomes::RowChange;
 use tables::rows::{ObjectRow, TagRow, ThreadRow, no_object, no_tag, no_thread};
 
 // A number past the last row writes none.
-#[derive(Drop)]
+#[derive(Clone, Copy)]
 pub struct Writes {
     pub thread: usize,
     pub thread_row: ThreadRow,

@@ -1,6 +1,8 @@
 // What a request that passed 2, 3 and 4 comes to: refusals 5 to 8, or what is done (01, "Requests"). It reads
 // what the request sees, the two lists of links, and the yes or no to the question of authority; the memory is
 // not among it. It changes nothing.
+#![tactic(auto)]
+
 ghost use Rattle.std.specs.Prelude.{◌≡◌};
 ghost use Rattle.decide.specs.Decide.{decide};
 

@@ -1,5 +1,7 @@
 // Kinds 01 to 09: new principals and tags, who acts for whom, leaves given and withdrawn. Each function tests
 // what its row of 01 refuses, in the row's order.
+#![tactic(auto)]
+
 ghost use Rattle.std.specs.Prelude.{◌≡◌};
 ghost use Rattle.decide_authority.specs.Authority.{
   is_public,

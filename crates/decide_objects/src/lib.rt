@@ -1,5 +1,7 @@
 // Kinds 12 to 1B: objects and their messages, and what goes out and comes in. Each function tests what its row
 // of 01 refuses, in the row's order.
+#![tactic(auto)]
+
 ghost use Rattle.std.specs.Prelude.{◌≡◌};
 ghost use Rattle.decide_objects.specs.Objects.{
   object_changed,

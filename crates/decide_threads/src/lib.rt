@@ -1,4 +1,6 @@
 // Kinds 0A to 11: labels, forks and calls. Each function tests what its row of 01 refuses, in the row's order.
+#![tactic(auto)]
+
 ghost use Rattle.std.specs.Prelude.{◌≡◌};
 ghost use Rattle.decide_threads.specs.Threads.{with_labels, out_of_secrecy, into_integrity, returned, fork, call, decide_thread};
 

@@ -4,6 +4,8 @@
 // The parameters, in this order: the state, the two lent lists of links, the lent store of messages, the frame,
 // the lent answer buffer. The core reads the links as numbers that are gathered from the records, and the one
 // change that a request makes in a list is put back into its records.
+#![tactic(auto)]
+
 ghost use Rattle.std.specs.Prelude.{◌≡◌, map};
 ghost use Rattle.records.specs.Records.{principal_link, tag_link};
 ghost use Rattle.entry.specs.Entry.{whole_places, reply_in, over_records, answered_of, no_links};
@@ -19,7 +21,7 @@ const PLACES: usize = 256;
 // What a request leaves beside the state, the lists and the lent buffers: its number or 0, and how many bytes of the
 // answer buffer were written.
 #[repr(C)]
-#[derive(Drop)]
+#[derive(Clone, Copy)]
 pub struct Reply {
     pub status: u8,
     pub written: usize,
@@ -62,7 +64,7 @@ pub fn request(
 }
 
 // The two lists of a caller that holds them itself.
-#[derive(Drop)]
+#[derive(Clone, Copy)]
 pub struct Lists {
     pub links: [PrincipalLink; 256],
     pub grants: [TagLink; 256],
@@ -78,7 +80,7 @@ pub fn no_links() -> Lists
 }
 
 // What a request leaves of its state and lists.
-#[derive(Drop)]
+#[derive(Clone, Copy)]
 pub struct Answered {
     pub reply: Reply,
     pub state: State,

@@ -1,4 +1,6 @@
 // Refusal 4 (01, "Refusal numbers"): "the flow need is not met"; and what 12, 13 and 1B test more.
+#![tactic(auto)]
+
 ghost use Rattle.std.specs.Prelude.{◌≡◌};
 ghost use Rattle.flows.specs.Flows.{object_more, outside_more, more, flows};
 

@@ -5,6 +5,8 @@
 // shape is walked once, over the type of what is read or written and the way to it (proofs/Parts.antt and what
 // stands on it); proofs/Calling.antt has the calls of these functions from a walk that holds a `&mut State`,
 // proofs/Passing.antt those from one that holds a `&State`, and proofs/Lending.antt calls for which a part is lent.
+#![tactic(auto)]
+
 ghost use Rattle.std.specs.Prelude.{◌≡◌, get_or, take};
 ghost use Rattle.tables.specs.Things.{no_thread, tag_at, object_at};
 ghost use Rattle.state.specs.Start.{cleared};
@@ -17,7 +19,7 @@ use state::State;
 use tables::rows::{ObjectRow, TagRow, ThreadRow, no_object, no_tag, no_thread};
 
 // How many principals, tags and links of each sort there are.
-#[derive(Drop)]
+#[derive(Clone, Copy)]
 pub struct Counts {
     pub principals: u32,
     pub links: usize,

@@ -7,7 +7,7 @@ ghost use Rattle.lines.specs.Digits.{digit_of, glyph_of, digits_of};
 pub const NO_DIGIT: u8 = 255;
 
 // The two digits of a byte, as they stand on a line.
-#[derive(Drop)]
+#[derive(Clone, Copy)]
 pub struct Digits {
     pub high: u8,
     pub low: u8,

@@ -1,4 +1,6 @@
 // Lines (01, "Lines"): requests and answers as hexadecimal digits.
+#![tactic(auto)]
+
 mod digits;
 mod line;
 mod reader;

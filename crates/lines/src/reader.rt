@@ -7,14 +7,14 @@ ghost use Rattle.lines.specs.Lines.{read_byte, no_byte_at};
 use crate::digits::digit_of;
 
 // "A frame reader holds the line and its place."
-#[derive(Drop)]
+#[derive(Clone, Copy)]
 pub struct FrameReader<'a> {
     pub line: &'a [u8],
     pub at: usize,
 }
 
 // A byte of a line, and whether its two digits are digits.
-#[derive(Drop)]
+#[derive(Clone, Copy)]
 pub struct ReadByte {
     pub value: u8,
     pub digits: bool,

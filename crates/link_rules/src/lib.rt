@@ -1,6 +1,8 @@
 // Whole link lists: the rules of 9 that speak of links (01, "Refusal numbers").
 //
 // Each list is tested in a few passes: no pair of links is compared and no walk is made for a link.
+#![tactic(auto)]
+
 mod rows;
 mod rules;
 

@@ -9,14 +9,14 @@ use crate::walk::{has, leads, led_to, led_to_from};
 use numbers::{Principal, Tag};
 
 // A tag and "a root principal, its maker".
-#[derive(Drop)]
+#[derive(Clone, Copy)]
 pub struct Rooted {
     pub tag: Tag,
     pub root: Principal,
 }
 
 // A tag is "a supertag or a subtag of one supertag", which then stands second.
-#[derive(Drop)]
+#[derive(Clone, Copy)]
 pub enum Lineage {
     Supertag(Rooted),
     Subtag(Rooted, Rooted),

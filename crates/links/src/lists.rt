@@ -7,7 +7,7 @@ use numbers::{Principal, Tag};
 
 // Which links of a list are meant: the list's own, where it is that of the principal links, or those of
 // one tag.
-#[derive(Drop)]
+#[derive(Clone, Copy)]
 pub enum Graph {
     Principals,
     OfTag(Tag),
@@ -31,7 +31,7 @@ pub fn used(places: usize, count: usize) -> usize
 }
 
 // Where a link stands in a list.
-#[derive(Drop)]
+#[derive(Clone, Copy)]
 pub enum Found {
     At(usize),
     Nothing,

@@ -1,5 +1,7 @@
 // The links as C functions, for the benchmark and the comparison with the second program: numbers pass
 // as themselves, a list as a pointer and a length. Each is the function of `links` or `link_rules` of the same name.
+#![tactic(auto)]
+
 ghost use Rattle.std.specs.Prelude.{◌≡◌};
 ghost use Rattle.links.specs.declared.lists.Graph.TheVariants.{Principals, OfTag};
 ghost use Rattle.links.specs.declared.authority.Lineage.TheVariants.{Supertag, Subtag};

@@ -3,6 +3,8 @@
 //
 // The memory stands beside the tables. What it holds is a yes whatever the links say: that it is true is
 // a rule of 9, and is not tested here.
+#![tactic(auto)]
+
 ghost use Rattle.std.specs.Prelude.{◌≡◌, ◌≤◌, ◌<◌, length, take};
 ghost use Rattle.numbers.specs.Numbers.{most_remembered};
 ghost use Rattle.links.specs.declared.lists.Graph.TheVariants.{Principals};
@@ -16,7 +18,7 @@ use numbers::{Principal, Tag, one_more};
 
 // A pair is the number of its principal * 256 + that of its tag. The first `held` places are in use.
 #[repr(C)]
-#[derive(Drop)]
+#[derive(Clone, Copy)]
 pub struct Memory {
     pub size: usize,
     pub held: usize,
@@ -29,7 +31,7 @@ pub struct Memory {
 const PAIRS: usize = 64;
 
 // The numbers of a memory beside its pairs.
-#[derive(Drop)]
+#[derive(Clone, Copy)]
 pub struct Tally {
     pub size: usize,
     pub held: usize,
@@ -39,7 +41,7 @@ pub struct Tally {
 
 // What is to be written into a memory: its numbers, and the pair that comes to the front from this place, or that all
 // pairs are cleared. From a place past the last none comes.
-#[derive(Drop)]
+#[derive(Clone, Copy)]
 pub struct Note {
     pub held: usize,
     pub questions: u32,
@@ -50,7 +52,7 @@ pub struct Note {
 }
 
 // What a question gives: the yes or no, and what it leaves to write.
-#[derive(Drop)]
+#[derive(Clone, Copy)]
 pub struct Verdict {
     pub yes: bool,
     pub note: Note,

@@ -1,4 +1,6 @@
 // The rules of 9 that speak of the remembered answers (01, "Refusal numbers"), but for their truth.
+#![tactic(auto)]
+
 ghost use Rattle.std.specs.Prelude.{◌≡◌, ◌≤◌, length};
 ghost use Rattle.memory_rules.specs.MemoryRules.{pairs_made, pairs_hold, size_holds, memory_holds};
 

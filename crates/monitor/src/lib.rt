@@ -3,6 +3,8 @@
 //
 // The parameters, in this order: the state, the two lists of links, the lent store of messages, the frame, the
 // lent answer buffer.
+#![tactic(auto)]
+
 ghost use Rattle.std.specs.Prelude.{◌≡◌};
 ghost use Rattle.monitor.specs.Monitor.{requested, quiet, reply_of, stop_of, stop_answer};
 

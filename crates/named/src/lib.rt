@@ -1,5 +1,7 @@
 // Refusal 3 (01, "Refusal numbers"): "an operand names no principal, tag or object, an object of another kind, a
 // subtag in 06, or a label with an unmade tag".
+#![tactic(auto)]
+
 ghost use Rattle.std.specs.Prelude.{◌≡◌};
 ghost use Rattle.named.specs.Named.{
   principal_made,

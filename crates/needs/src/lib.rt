@@ -2,6 +2,8 @@
 //
 // "Which of null, read, write or both a kind needs (12, 13, 1B test more) is one fixed table, looked
 // up by kind." What 12, 13 and 1B test more is not here.
+#![tactic(auto)]
+
 ghost use Rattle.std.specs.Prelude.{◌≡◌};
 ghost use Rattle.needs.specs.Needs.{need_of};
 

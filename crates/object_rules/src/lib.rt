@@ -1,5 +1,7 @@
 // The rules of 9 that speak of the rows of objects (01, "Refusal numbers"): limits, made labels and unused
 // places, tested in one pass.
+#![tactic(auto)]
+
 ghost use Rattle.std.specs.Prelude.{◌≡◌};
 ghost use Rattle.object_rules.specs.ObjectRules.{what_in_limits, object_numbers_in_limits, numbers_unused, what_labels, object_holds, objects_hold};
 

@@ -1,5 +1,7 @@
 // What a request comes to: its answer, and what changes in each list, in the store and in the rows. Nothing is
 // changed here; `apply` does that. A refusal changes nothing.
+#![tactic(auto)]
+
 ghost use Rattle.std.specs.Prelude.{◌≡◌};
 ghost use Rattle.outcomes.specs.Outcomes.{refused, done, told, rows_changed, links_changed, grants_changed};
 
@@ -9,7 +11,7 @@ use numbers::{LabelPair, Principal};
 use tables::rows::{ObjectRow, TagRow};
 
 // A lent list gets a link more, or loses the one at a place.
-#[derive(Drop)]
+#[derive(Clone, Copy)]
 pub enum ListChange {
     Keep,
     Append(u32),
@@ -18,7 +20,7 @@ pub enum ListChange {
 
 // A message is put at a place, an object's first is taken, or all its places are freed. Places are given by
 // where they begin.
-#[derive(Drop)]
+#[derive(Clone, Copy)]
 pub enum StoreChange {
     Keep,
     Put(usize, Span),
@@ -27,7 +29,7 @@ pub enum StoreChange {
 }
 
 // One row changes, or one is new. Where none is named, it is the caller's own.
-#[derive(Drop)]
+#[derive(Clone, Copy)]
 pub enum RowChange {
     Keep,
     NewPrincipal,
@@ -40,7 +42,7 @@ pub enum RowChange {
     Object(usize, ObjectRow),
 }
 
-#[derive(Drop)]
+#[derive(Clone, Copy)]
 pub struct Outcome {
     pub answer: Answer,
     pub links: ListChange,

@@ -1,5 +1,7 @@
 // Refusals 2, 3 and 4 (01, "Refusal numbers"), in this order and before those of a kind's own row; and whether
 // a request asks for authority.
+#![tactic(auto)]
+
 ghost use Rattle.std.specs.Prelude.{◌≡◌};
 ghost use Rattle.prelude.specs.Prelude.{prelude, authority_asks, thread_asks, asks};
 
@@ -10,7 +12,7 @@ use named::is_named;
 use sight::Sight;
 
 // No refusal, or one.
-#[derive(Drop)]
+#[derive(Clone, Copy)]
 pub enum Checked {
     Passed,
     Stopped(Refusal),

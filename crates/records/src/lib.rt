@@ -4,6 +4,8 @@
 //
 // The borrow checker covers no function over a slice of structs. So each that takes one is thin, and proved by
 // hand; the two lists share the proofs (proofs/Shelf.antt and what stands on it).
+#![tactic(auto)]
+
 pub mod principals;
 pub mod tags;
 

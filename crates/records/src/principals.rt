@@ -9,7 +9,7 @@ use outcomes::ListChange;
 
 // "Principal links (from, to)"
 #[repr(C)]
-#[derive(Drop)]
+#[derive(Clone, Copy)]
 pub struct PrincipalLink {
     pub from: Principal,
     pub to: Principal,

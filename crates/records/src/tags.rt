@@ -9,7 +9,7 @@ use outcomes::ListChange;
 
 // "tag links (tag, from, to)"
 #[repr(C)]
-#[derive(Drop)]
+#[derive(Clone, Copy)]
 pub struct TagLink {
     pub tag: Tag,
     pub from: Principal,

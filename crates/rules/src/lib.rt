@@ -1,5 +1,7 @@
 // The rules of 9 (01, "Refusal numbers") on any tables at all. The truth of remembered pairs stands apart,
 // because the step behind the check is defined without it.
+#![tactic(auto)]
+
 mod truth;
 
 ghost use Rattle.std.specs.Prelude.{◌≡◌, ℕ, ◌≤◌, ◌<◌};

@@ -1,6 +1,8 @@
 // A list of lines fed byte by byte: the state, the lists of links and the line in the making go from one block of
 // input to the next. The lists are held as records, by value, and lent for each request. A block is read while the output buffer has room for an answer, so that no half of one is ever
 // written.
+#![tactic(auto)]
+
 ghost use Rattle.std.specs.Prelude.{◌≡◌, ◌+◌, ◌≤◌, leb, length};
 ghost use Rattle.store.specs.Store.{over};
 ghost use Rattle.monitor.specs.Monitor.{shortest_buffer};
@@ -25,14 +27,14 @@ const ENDING_ROOM: usize = 88;
 const LAST_LINE: usize = 19;
 
 // A line in the making.
-#[derive(Drop)]
+#[derive(Clone, Copy)]
 pub struct Line {
     pub held: usize,
     pub bytes: [u8; KEPT],
 }
 
 // What a block of input leaves: how much of it was read, and how much was written.
-#[derive(Drop)]
+#[derive(Clone, Copy)]
 pub struct Fed {
     pub state: State,
     pub lists: Lists,
@@ -42,7 +44,7 @@ pub struct Fed {
 }
 
 // What the end of the input leaves: how much was written, and whether there was room for it.
-#[derive(Drop)]
+#[derive(Clone, Copy)]
 pub struct Finished {
     pub state: State,
     pub lists: Lists,
@@ -51,7 +53,7 @@ pub struct Finished {
 }
 
 // What a whole list leaves. The status is 0, or 11 at a start that was refused.
-#[derive(Drop)]
+#[derive(Clone, Copy)]
 pub struct Ran {
     pub status: u8,
     pub state: State,
@@ -62,7 +64,7 @@ pub struct Ran {
 }
 
 // What a line's end leaves: the state, the lists, and how many bytes were written.
-#[derive(Drop)]
+#[derive(Clone, Copy)]
 struct Turned {
     pub state: State,
     pub lists: Lists,

@@ -2,6 +2,8 @@
 // there is, and the tag and the object that it names. The memory is not among it.
 // On it stand the refusals 2, 3 and 4, and whether a request asks for authority (crates `named`, `flows` and
 // `prelude`).
+#![tactic(auto)]
+
 mod names;
 
 ghost use Rattle.std.specs.Prelude.{◌≡◌};
@@ -20,7 +22,7 @@ use tables::rows::{ObjectRow, TagRow, ThreadRow};
 use tables::says::is_live;
 
 // The thread that asks, and who it runs as.
-#[derive(Drop)]
+#[derive(Clone, Copy)]
 pub struct Caller {
     pub live: bool,
     pub principal: Principal,
@@ -28,7 +30,7 @@ pub struct Caller {
     pub calls: usize,
 }
 
-#[derive(Drop)]
+#[derive(Clone, Copy)]
 pub struct Sight {
     pub caller: Caller,
     pub principals: u32,

@@ -1,4 +1,6 @@
 // The state of the monitor: the tables and, beside them, the remembered answers. How it starts.
+#![tactic(auto)]
+
 ghost use Rattle.std.specs.Prelude.{◌≡◌};
 ghost use Rattle.state.specs.Start.{empty_memory, started, zeroed};
 
@@ -7,14 +9,14 @@ use numbers::REMEMBERED;
 use tables::{Tables, fresh_tables};
 
 #[repr(C)]
-#[derive(Drop)]
+#[derive(Clone, Copy)]
 pub struct State {
     pub tables: Tables,
     pub memory: Memory,
 }
 
 // A start: 0, or the refusal 11, and the state.
-#[derive(Drop)]
+#[derive(Clone, Copy)]
 pub struct Started {
     pub status: u8,
     pub state: State,

@@ -3,6 +3,8 @@
 // there a held pair is a yes whatever the links say.
 //
 // The lists of links are only read: what changes in them is told, and whoever holds them changes them.
+#![tactic(auto)]
+
 ghost use Rattle.std.specs.Prelude.{◌≡◌, true, ◌≤◌, length};
 ghost use Rattle.memory.specs.Notes.{noted};
 ghost use Rattle.rules.specs.Tested.{hold_but_truth};
@@ -23,7 +25,7 @@ use tables::rows::ThreadRow;
 
 // What a request gives beside the lent buffers: its number or 0, how many bytes of the answer buffer were written,
 // and what is to change in the lists of links.
-#[derive(Drop)]
+#[derive(Clone, Copy)]
 pub struct Stepped {
     pub status: u8,
     pub written: usize,
@@ -42,7 +44,7 @@ fn recall(s: &State, sight: Sight, r: Request) -> Recalled
 }
 
 // What a request reads of the state.
-#[derive(Drop)]
+#[derive(Clone, Copy)]
 struct Seen {
     pub sight: Sight,
     pub own: ThreadRow,

@@ -1,6 +1,8 @@
 // Messages of objects in one lent store of bytes. Each object has 8 places of 33 bytes: a length byte and
 // room for the longest message. What follows a message in its place is zero.
 // Which place is in use is not known here: the caller says where a place or an object begins.
+#![tactic(auto)]
+
 ghost use Rattle.std.specs.Prelude.{◌≡◌, ◌+◌, ◌≤◌, length};
 ghost use Rattle.store.specs.Store.{object_size, place_at, byte_at, message_at, zeros, cleared, put, took_first};
 

@@ -1,5 +1,7 @@
 // The rules of 9 that speak of the store of messages (01, "Refusal numbers"): a message over 32 bytes, and
 // bytes that are not in use and not zero. The rows of the objects say which places are in use.
+#![tactic(auto)]
+
 ghost use Rattle.std.specs.Prelude.{◌≡◌, ℕ, ◌+◌, ◌*◌, ◌≤◌, ◌<◌, length};
 ghost use Rattle.tables.specs.Rows.{what_of};
 ghost use Rattle.tables.specs.Things.{object_at};

@@ -2,6 +2,8 @@
 // questions, hits. It holds the lists of links as records, and they are lent for each request. Of the input it keeps one block and the line in the making, however long the input and its
 // lines are; what a block gives is written before the next is read. A read or a write that fails is told on
 // standard error and ends it.
+#![tactic(auto)]
+
 ghost use Rattle.std.specs.Prelude.{◌≡◌, ◌⊎◌, ◌≤◌, ◌<◌, length};
 
 use entry::{Lists, no_links};
@@ -13,7 +15,7 @@ use state::{State, start};
 const MEMORY: usize = 8;
 
 // What goes from block to block: whether there is more to read, and whether nothing failed.
-#[derive(Drop)]
+#[derive(Clone, Copy)]
 struct Served {
     state: State,
     lists: Lists,
@@ -23,7 +25,7 @@ struct Served {
 }
 
 // What goes from piece to piece of a block, and how much of it was read.
-#[derive(Drop)]
+#[derive(Clone, Copy)]
 struct Piece {
     state: State,
     lists: Lists,

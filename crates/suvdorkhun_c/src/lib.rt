@@ -1,5 +1,7 @@
 // What a host in C or Rust calls. The state crosses as a struct behind a pointer, a list or a buffer as a pointer
 // and a length, and nothing is asked of what stands in them: each function answers whatever it is lent.
+#![tactic(auto)]
+
 ghost use Rattle.std.specs.Prelude.{◌≡◌, map};
 ghost use Rattle.store.specs.Store.{over};
 ghost use Rattle.records.specs.Records.{principal_link, tag_link, cleared as cleared_links};
@@ -22,7 +24,7 @@ const STATE_SIZE: usize = 3704;
 // What a list of lines gives back: 0, or 11 at a start that was refused; 1 where all of it was answered, else 0;
 // how much was read and written.
 #[repr(C)]
-#[derive(Drop)]
+#[derive(Clone, Copy)]
 pub struct Listed {
     pub status: u8,
     pub complete: u8,

@@ -1,6 +1,8 @@
 // The tables (01, "Things and numbers"): a row a thread, tag and object, and the counts. The two lists of
 // links and the store of messages are lent beside them, and the remembered answers stand beside them too.
 // A place that is not in use is zero.
+#![tactic(auto)]
+
 pub mod fields;
 pub mod free;
 pub mod lineage;
@@ -13,7 +15,7 @@ ghost use Rattle.tables.specs.Things.{fresh_tables};
 use crate::rows::{ObjectRow, TagRow, ThreadRow, no_object, no_tag, no_thread, office_thread};
 
 #[repr(C)]
-#[derive(Drop)]
+#[derive(Clone, Copy)]
 pub struct Tables {
     pub principals: u32,
     pub links: usize,

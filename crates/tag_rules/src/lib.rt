@@ -1,5 +1,7 @@
 // The rules of 9 that speak of the rows of tags (01, "Refusal numbers"): limits, made numbers, roots, supertags
 // and unused places.
+#![tactic(auto)]
+
 ghost use Rattle.std.specs.Prelude.{◌≡◌, ◌≤◌};
 ghost use Rattle.tag_rules.specs.TagRules.{is_supertag, is_no_tag, tag_numbers_hold, root_holds, above_of, tags_made, tags_unused, tags_hold};
 

@@ -1,5 +1,7 @@
 // The rules of 9 that speak of the rows of threads (01, "Refusal numbers"): limits, made numbers and unused
 // places, tested in one pass.
+#![tactic(auto)]
+
 ghost use Rattle.std.specs.Prelude.{◌≡◌, ◌≤◌};
 ghost use Rattle.thread_rules.specs.ThreadRules.{aside_made, aside_unused, is_no_thread, thread_holds, threads_hold};
 
