@@ -15,4 +15,4 @@ returns c = let a = c.args in
     let ls = links_in a.links.now a.n Principals in
     c.has.ensures
     ∙ ap (λ (s : ℕ). contains s a.p.0) (c.led_to_from.ensures ∙ ap (led_to_from ls) c.led_to-nodes.ensures)
-    ∙ two-walks ls (links_of a.tag-links.now a.m a.t) (links_from-low 0 (take a.n a.links.now)) a.t.root a.p
+    ∙ two-walks ls (links_of a.tag_links.now a.m a.t) (links_from-low 0 (take a.n a.links.now)) a.t.root a.p

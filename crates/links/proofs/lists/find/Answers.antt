@@ -1,8 +1,5 @@
-use mathlib.Core.Path.{◌≡◌, refl, sym, ◌∙◌}
-use Prim.Native.Nat.{◌-◌, ◌≤◌}
+use mathlib.Core.Path.{refl, sym, ◌∙◌}
 use native.Mathlib.Omega.{arith}
-use lib.ListN.{take, drop}
-use Rattle.links.specs.Links.{find_from, find_in}
 use Rattle.links.proofs.LinkLaws.{find-hit, find_past, find-end}
 use Rattle.links.proofs.lists.find.Goals as goal
 

@@ -1,9 +1,7 @@
-use mathlib.Core.Path.{◌≡◌, refl, sym, ◌∙◌}
+use mathlib.Core.Path.{◌≡◌}
 use Prim.Native.Nat.{◌-◌, ◌≤◌}
-use native.Mathlib.Omega.{arith}
 use lib.ListN.{take, drop}
 use Rattle.links.specs.Links.{find_from, find_in}
-use Rattle.links.proofs.LinkLaws.{find-hit, find_past, find-end}
 use Rattle.links.proofs.lists.find.Given as goal
 
 abbrev pub invariant-loop-i : goal.invariant-loop-i

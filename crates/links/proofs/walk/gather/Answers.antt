@@ -1,6 +1,5 @@
 use mathlib.Core.Path.{◌≡◌, sym, subst}
-use mathlib.Core.Logic.{⊎_elim}
-use Prim.Native.Nat.{ℕ, ◌+◌, ◌-◌, ◌/◌, ◌%◌, ◌≤◌, ◌<◌}
+use Prim.Native.Nat.{ℕ, ◌+◌, ◌-◌, ◌/◌, ◌%◌, ◌<◌}
 use native.Mathlib.Omega.{arith}
 use lib.ListN.{get_or, length, take}
 use Rattle.numbers.proofs.Chain.{by-yes}
@@ -8,18 +7,15 @@ use Rattle.links.specs.Links.{links_from}
 use Rattle.links.specs.Walk.{Rows}
 use Rattle.links.proofs.LinkLaws.{Names, test-names}
 use Rattle.links.proofs.Gathering.{rows-past, rows-link}
+use Rattle.links.proofs.walk.gather.Goals.{then-is_link_of, else-is_link_of}
+use Rattle.links.specs.Links.{is_link_of}
+use Rattle.std.proofs.Common.{Bool, true}
 use Rattle.links.proofs.walk.gather.Goals as goal
 
 -- the number at hand is that of a link
 
-names : (c : tie.Then1 invariant-loop decreases-loop) →
-    let l = get_or c.before.before.before.before.before.before.args.links.now c.before.before.before.before.loop.i 0 in
-    let base = c.before.before.before.before.before.before.args.base in
-    Names base l (l / 256 - base) (l % 256)
-
-names c =
-    let a = c.before.before.before.before.before.before.args in
-    test-names a.base (get_or a.links.now c.before.before.before.before.loop.i 0) (by-yes c.before.is-link-of.ensures c.if1.true)
+names : (base l : ℕ) {r : Bool} → r ≡ is_link_of base l → r ≡ true → Names base l (l / 256 - base) (l % 256)
+names base l e t = test-names base l (by-yes e t)
 
 pub loop-i-init : goal.loop-i-init
 unfolding links_from
@@ -32,28 +28,28 @@ pub is_link_of-requires : goal.is_link_of-requires
 is_link_of-requires c = c.requires.n_in_bounds.1
 
 pub overflow_sub-p : goal.overflow_sub-p
-overflow_sub-p c = omega (arith, (names c).near)
+overflow_sub-p c = omega (arith, (names c.args.base (get_or c.args.links.now c.loop-i.i 0) c.is_link_of.ensures c.if-is_link_of.true).near)
 
 pub overflow_cast-p : goal.overflow_cast-p
-overflow_cast-p c = omega (arith, (names c).from_low)
+overflow_cast-p c = omega (arith, (names c.args.base (get_or c.args.links.now c.loop-i.i 0) c.is_link_of.ensures c.if-is_link_of.true).from_low)
 
 pub offset_bounds-rows-p : goal.offset_bounds-rows-p
-offset_bounds-rows-p c = omega (arith, (names c).from_low)
+offset_bounds-rows-p c = omega (arith, (names c.args.base (get_or c.args.links.now c.loop-i.i 0) c.is_link_of.ensures c.if-is_link_of.true).from_low)
 
 pub bounds-rows-p : goal.bounds-rows-p
-bounds-rows-p c = (names c).from_low
+bounds-rows-p c = (names c.args.base (get_or c.args.links.now c.loop-i.i 0) c.is_link_of.ensures c.if-is_link_of.true).from_low
 
 pub overflow_cast-rows : goal.overflow_cast-rows
-overflow_cast-rows c = omega (arith, (names c{-After-way_told-}).to_low)
+overflow_cast-rows c = omega (arith, (names c.args.base (get_or c.args.links.now c.loop-i.i 0) c.is_link_of.ensures c.if-is_link_of.true).to_low)
 
 pub overflow_shl-rows : goal.overflow_shl-rows
-overflow_shl-rows c = (names c{-After-way_told-}).to_low
+overflow_shl-rows c = (names c.args.base (get_or c.args.links.now c.loop-i.i 0) c.is_link_of.ensures c.if-is_link_of.true).to_low
 
 pub offset_bounds-rows-p-then-is_link_of : goal.offset_bounds-rows-p-then-is_link_of
-offset_bounds-rows-p-then-is_link_of c = omega (arith, (names c{-After-way_told-}).from_low)
+offset_bounds-rows-p-then-is_link_of c = omega (arith, (names c.args.base (get_or c.args.links.now c.loop-i.i 0) c.is_link_of.ensures c.if-is_link_of.true).from_low)
 
 pub bounds-rows-p-then-is_link_of : goal.bounds-rows-p-then-is_link_of
-bounds-rows-p-then-is_link_of c = (names c{-After-way_told-}).from_low
+bounds-rows-p-then-is_link_of c = (names c.args.base (get_or c.args.links.now c.loop-i.i 0) c.is_link_of.ensures c.if-is_link_of.true).from_low
 
 pub overflow_add-i : goal.overflow_add-i
 overflow_add-i c = omega (arith, c.requires.n_in_bounds.0)
@@ -67,10 +63,10 @@ loop-i-preserved c = let a = c.args in
     let fits : o.i < length a.links.now = omega (arith, c.requires.n_in_bounds.0) in
     let is = c.is_link_of.ensures in (
       omega arith,
-      ⊎_elim
-          (λ m. subst (Rows (links_from a.base (take (o.i + 1) a.links.now))) (sym m.2) (rows-link a.base a.links.now o.rows o.i fits o.invariant.1 (by-yes is m.0.taken)))
-          (λ m. subst (Rows (links_from a.base (take (o.i + 1) a.links.now))) (sym m.1) (rows-past a.base a.links.now o.rows o.i fits o.invariant.1 (by-yes is m.0.left)))
-          c.if-is_link_of.branch,
+      elim c.if-is_link_of.branch [
+        | then-is_link_of w ↦ subst (Rows (links_from a.base (take (o.i + 1) a.links.now))) (sym w.rows-is) (rows-link a.base a.links.now o.rows o.i fits o.invariant.1 (by-yes is w.if-is_link_of.true))
+        | else-is_link_of w ↦ subst (Rows (links_from a.base (take (o.i + 1) a.links.now))) (sym w.rows-is) (rows-past a.base a.links.now o.rows o.i fits o.invariant.1 (by-yes is w.if-is_link_of.false))
+      ],
     )
 
 pub returns : goal.returns

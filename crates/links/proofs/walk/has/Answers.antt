@@ -1,7 +1,7 @@
 use mathlib.Core.Path.{sym}
 use native.Mathlib.Nat.{lt_of_lt_of_le}
 use lib.Pow.{pow_mono}
-use Rattle.numbers.proofs.Sets.{contains-test, contains-above}
+use Rattle.numbers.proofs.Sets.{contains-above}
 use Rattle.links.proofs.walk.has.Goals as goal
 
 pub returns-else-p-lt64 : goal.returns-else-p-lt64

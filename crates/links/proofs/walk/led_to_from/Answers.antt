@@ -12,7 +12,7 @@ use Rattle.links.proofs.walk.led_to_from.Goals as goal
 
 pub gather-requires : goal.gather-requires
 gather-requires c = let base = c.base_of in
-    ((omega (arith, c.used.ensures), base-room c.args.g base.result base.ensures (omega (arith, base.type-inv))), rows_none)
+    record { n_in_bounds = (omega (arith, c.used.ensures), base-room c.args.g base.result base.ensures (omega (arith, base.type_inv))); rows = rows_none }
 
 pub returns : goal.returns
 returns c = let a = c.args in
