@@ -10,14 +10,13 @@ use Rattle.memory.proofs.renew.Goals as goal
 -- the code's test is the definition's
 
 by-test : (k x : ℕ) (p r : List ℕ) (b clear : Bool) → clear ≡ b → renewed k x b p ≡ r → r ≡ renewed k x clear p
-
 by-test k x p r b clear e is = sym (ap (λ (t : Bool). renewed k x t p) e ∙ is)
 
 pub returns-then-clear : goal.returns-then-clear
 returns-then-clear c = let a = c.args in by-test a.place a.x a.pairs.now _ true a.clear c.if-clear.true (renewed-clear a.place a.x a.pairs.now)
 
 pub slide-requires : goal.slide-requires
-slide-requires c = omega (arith, c.if-place-lt-PAIRS.true, c.slide-arg-1.given.0.1)
+slide-requires c = omega arith
 
 pub returns-then-place-lt-PAIRS : goal.returns-then-place-lt-PAIRS
 returns-then-place-lt-PAIRS c = let a = c.args in

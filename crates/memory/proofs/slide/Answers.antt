@@ -1,26 +1,14 @@
 use mathlib.Core.Path.{◌≡◌, sym, ap, ap₂, ◌∙◌}
 use mathlib.Core.List.{List, ◌∷◌}
-use Prim.Native.Nat.{ℕ, suc, ◌+◌, ◌-◌, ◌≤◌}
+use Prim.Native.Nat.{ℕ, suc}
 use native.Mathlib.Numerals.{add-one}
 use native.Mathlib.Omega.{arith}
-use lib.ListN.{length, get_or, set, length-set}
+use lib.ListN.{get_or, set, length-set}
 use Rattle.memory.proofs.Sliding.{over, over-next, over-more}
 use Rattle.memory.proofs.slide.Goals as goal
 
-pub offset_bounds-pairs-i : goal.offset_bounds-pairs-i
-offset_bounds-pairs-i c = omega arith
-
-pub offset_bounds-pairs-i-in-loop-i : goal.offset_bounds-pairs-i-in-loop-i
-offset_bounds-pairs-i-in-loop-i c = omega arith
-
-pub bounds-pairs-i-in-loop-i : goal.bounds-pairs-i-in-loop-i
-bounds-pairs-i-in-loop-i c = omega arith
-
-pub overflow_add-i : goal.overflow_add-i
-overflow_add-i c = omega arith
-
-pub loop-i-smaller : goal.loop-i-smaller
-loop-i-smaller c = let p = c.args.pairs.now in
+pub loop-i-preserved : goal.loop-i-preserved
+loop-i-preserved c = let p = c.args.pairs.now in
     let s = c.args.x ∷ p in
     let i = c.loop-i.i in
     let inv = c.loop-i.invariant in (
@@ -29,9 +17,6 @@ loop-i-smaller c = let p = c.args.pairs.now in
       ap₂ (λ (r : List ℕ) (v : ℕ). set r i v) inv.2 inv.3 ∙ over-more s p i (omega arith) (omega arith) (omega arith) ∙ ap (over s p) (sym (add-one i)),
       ap (λ (r : List ℕ). get_or r i 0) inv.2 ∙ over-next s p i (omega arith) (omega arith) ∙ ap (λ (j : ℕ). get_or s j 0) (sym (add-one i)),
     )
-
-pub loop-i-preserved : goal.loop-i-preserved
-loop-i-preserved c = c.loop-i.invariant.1
 
 pub returns : goal.returns
 returns c = let e : c.loop-i.i ≡ suc c.args.k = omega arith in

@@ -1,14 +1,12 @@
-use mathlib.Core.Path.{◌≡◌, sym, ap, ap₂, ◌∙◌}
-use mathlib.Core.List.{List, ◌∷◌}
-use Prim.Native.Nat.{ℕ, suc, ◌+◌, ◌-◌, ◌≤◌}
-use native.Mathlib.Numerals.{add-one}
-use native.Mathlib.Omega.{arith}
-use lib.ListN.{length, get_or, set, length-set}
-use Rattle.memory.proofs.Sliding.{over, over-next, over-more}
+use mathlib.Core.Path.{◌≡◌}
+use mathlib.Core.List.{◌∷◌}
+use Prim.Native.Nat.{◌+◌, ◌-◌, ◌≤◌}
+use lib.ListN.{length, get_or}
+use Rattle.memory.proofs.Sliding.{over}
 use Rattle.memory.proofs.slide.Given as goal
 
 abbrev pub invariant-loop-i : goal.invariant-loop-i
-invariant-loop-i l = (l.i ≤ l.x + 1) × (length l.pairs ≡ length l.k) × (l.pairs ≡ over (l.initial.pairs ∷ l.k) l.k l.i) × (l.last ≡ get_or (l.initial.pairs ∷ l.k) l.i 0)
+invariant-loop-i l = (l.i ≤ l.k + 1) × (length l.pairs ≡ length l.initial.pairs) × (l.pairs ≡ over (l.x ∷ l.initial.pairs) l.initial.pairs l.i) × (l.last ≡ get_or (l.x ∷ l.initial.pairs) l.i 0)
 
 abbrev pub decreases-loop-i : goal.decreases-loop-i
-decreases-loop-i l = l.x + 1 - l.i
+decreases-loop-i l = l.k + 1 - l.i
