@@ -81,9 +81,10 @@ fn write_message(message: &[u8], answer: &mut [u8])
     requires { (length message.now ≤ 32) × (34 ≤ length answer.old) }
     ensures { answer.new ≡ front (0 ∷ length message.now ∷ message.now) answer.old }
 {
+    let n = message.len();
     answer[0] = 0;
-    answer[1] = message.len() as u8;
-    bytes::copy(message, &mut answer[2..]);
+    answer[1] = n as u8;
+    answer[2..2 + n].copy_from_slice(message);
 }
 
 // An answer at the front of the lent buffer. A message is read from the frame or the store.

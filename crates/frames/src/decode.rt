@@ -75,6 +75,7 @@ fn kind_of_object(k: u8) -> ObjectKind
 }
 
 // 01 to 09, with the operands' bytes. "P, Q, T, O are one byte."
+#[tactic(auto, unfolding(crate::specs::Requests::authority_request))]
 fn authority_request(kind: u8, a: u8, b: u8, c: u8) -> AuthorityRequest
     ensures { result ≡ authority_request kind a b c }
 {
@@ -92,6 +93,7 @@ fn authority_request(kind: u8, a: u8, b: u8, c: u8) -> AuthorityRequest
 }
 
 // 0A to 11
+#[tactic(auto, unfolding(crate::specs::Requests::thread_request))]
 fn thread_request(kind: u8, a: u8) -> ThreadRequest
     ensures { result ≡ thread_request kind a }
 {
@@ -108,6 +110,7 @@ fn thread_request(kind: u8, a: u8) -> ThreadRequest
 }
 
 // 13 to 19
+#[tactic(auto, unfolding(crate::specs::Requests::object_request))]
 fn object_request(kind: u8, a: u8, message: Span) -> ObjectRequest
     ensures { result ≡ object_request kind a message }
 {
@@ -123,6 +126,7 @@ fn object_request(kind: u8, a: u8, message: Span) -> ObjectRequest
 }
 
 // 1A and 1B
+#[tactic(auto, unfolding(crate::specs::Requests::outside_request))]
 fn outside_request(kind: u8, message: Span) -> OutsideRequest
     ensures { result ≡ outside_request kind message }
 {
@@ -133,6 +137,7 @@ fn outside_request(kind: u8, message: Span) -> OutsideRequest
 }
 
 // What a frame says whose kind byte and first operand are these.
+#[tactic(auto, unfolding(crate::specs::Requests::request_by))]
 fn request_by(frame: &[u8], kind: u8, a: u8) -> Request
     ensures { result ≡ request_by frame.now kind a }
 {

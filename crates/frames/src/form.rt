@@ -43,6 +43,7 @@ fn message_length(frame: &[u8]) -> u8
 }
 
 // The frame is not refused 1.
+#[tactic(auto, unfolding(crate::specs::Requests::well_formed))]
 pub fn well_formed(frame: &[u8]) -> bool
     ensures { result ≡ well_formed frame.now }
 {

@@ -1,6 +1,5 @@
-// The frame reader: it reads a line a byte at a time, each from two digits, "high first". The borrow checker covers
-// no function over a struct that holds a reference, so all here are proved by hand but `pair_at` and `over_at`,
-// which do the work. A caller of `read_byte` or `is_read`, whose parameters are plain, is covered again.
+// The frame reader: it reads a line a byte at a time, each from two digits, "high first". `pair_at` and `over_at` do
+// the work, and the parameters of `read_byte` and `is_read` are plain.
 ghost use Rattle.std.specs.Prelude.{◌≡◌, ◌+◌, ◌<◌, length};
 ghost use Rattle.lines.specs.Lines.{read_byte, no_byte_at};
 

@@ -4,6 +4,7 @@ use mathlib.Core.List.{List, [], ◌∷◌, ◌++◌, append_assoc}
 use Prim.Native.Nat.{ℕ, ◌+◌, ◌-◌, ◌≤◌, ◌<◌}
 use native.Mathlib.Numerals.{add-one}
 use native.Mathlib.Omega.{arith}
+use borrow.Rule.Slice.PartMut.{put_mid}
 use lib.ListN.{length, take, drop, set, replicate, length-append, length-drop, length-replicate, replicate-append-replicate, take-append-drop, get_or-append}
 use lib.Seq.{length-take-le, take-append-le, drop-append-le, take_at, drop_at, get_or-append-add, get_or-take, get_or-drop, set_split, drop-drop, take-suc, ext_get_or}
 use Rattle.store.specs.Store.{byte_at, part, over, cleared}
@@ -68,6 +69,11 @@ over-next s at bs i b e h =
     ap (λ (k : ℕ). set (over s at bs) (at + k) b) (sym e)
     ∙ over-one (over s at bs) (at + length bs) b (omega (arith, over-length s at bs (omega arith)))
     ∙ over-over s at bs (b ∷ []) (omega arith)
+
+-- bytes put in the place of as many, as a write to a part of a slice does
+pub over-mid : (s : List ℕ) (at k : ℕ) (bs : List ℕ) → length bs ≡ k → put_mid at k s bs ≡ over s at bs
+over-mid s at k bs e =
+    ap (λ (r : List ℕ). take at s ++ (bs ++ r)) (drop-drop k at s ∙ ap (λ (n : ℕ). drop (at + n) s) (sym e))
 
 -- a part that lies within the store has the length asked for
 pub part_length : (s : List ℕ) (from n : ℕ) → from + n ≤ length s → length (part s from n) ≡ n

@@ -86,7 +86,7 @@ pub fn put(store: &mut [u8], at: usize, message: &[u8])
     let n = message.len();
     store[at] = n as u8;
     let from = at + 1;
-    bytes::copy(message, &mut store[from..]);
+    store[from..from + n].copy_from_slice(message);
     let rest = from + n;
     clear(store, rest, MESSAGE - n);
 }
