@@ -1,10 +1,7 @@
 // Single parts of a state that lies behind a reference, read and written in place, so that a request copies no
 // table. A number past the last names no row: it reads as the row of nothing, and to write it changes nothing.
 //
-// The borrow checker covers no reference to a struct, so each function here is thin, and proved by hand. Each
-// shape is walked once, over the type of what is read or written and the way to it (proofs/Parts.antt and what
-// stands on it); proofs/Calling.antt has the calls of these functions from a walk that holds a `&mut State`,
-// proofs/Passing.antt those from one that holds a `&State`, and proofs/Lending.antt calls for which a part is lent.
+// Each function here is thin, and says in one equation which part it reads or replaces.
 #![tactic(auto)]
 
 ghost use Rattle.std.specs.Prelude.{◌≡◌, get_or, take};
@@ -14,7 +11,6 @@ ghost use Rattle.memory.specs.Notes.{tally_of, place_in};
 ghost use Rattle.lent.specs.Lent.{counts_of, thread_put, tag_put, object_put, counts_put, note_put};
 
 use memory::{Note, Tally};
-use numbers::{OBJECTS, TAGS, THREADS};
 use state::State;
 use tables::rows::{ObjectRow, TagRow, ThreadRow, no_object, no_tag, no_thread};
 
@@ -29,29 +25,35 @@ pub struct Counts {
 
 // ---- what is read
 
+#[tactic(auto, using(std::proofs::lemmas::List::get_or_past))]
 pub fn thread_at(s: &State, n: usize) -> ThreadRow
     ensures { result ≡ get_or s.now.tables.threads n no_thread }
 {
-    if n < THREADS {
-        return s.tables.threads[n];
+    let rows: &[ThreadRow] = &s.tables.threads;
+    if n < rows.len() {
+        return rows[n];
     }
     no_thread()
 }
 
+#[tactic(auto, using(std::proofs::lemmas::List::get_or_past))]
 pub fn tag_at(s: &State, n: usize) -> TagRow
     ensures { result ≡ tag_at s.now.tables.kinds n }
 {
-    if n < TAGS {
-        return s.tables.kinds[n];
+    let rows: &[TagRow] = &s.tables.kinds;
+    if n < rows.len() {
+        return rows[n];
     }
     no_tag()
 }
 
+#[tactic(auto, using(std::proofs::lemmas::List::get_or_past))]
 pub fn object_at(s: &State, n: usize) -> ObjectRow
     ensures { result ≡ object_at s.now.tables.objects n }
 {
-    if n < OBJECTS {
-        return s.tables.objects[n];
+    let rows: &[ObjectRow] = &s.tables.objects;
+    if n < rows.len() {
+        return rows[n];
     }
     no_object()
 }
@@ -107,27 +109,33 @@ pub fn whole(s: &State) -> State
 
 // ---- what is written
 
+#[tactic(auto, using(crate::proofs::Past::thread_past))]
 pub fn put_thread(s: &mut State, n: usize, row: ThreadRow)
     ensures { s.new ≡ thread_put s.old n row }
 {
-    if n < THREADS {
-        s.tables.threads[n] = row;
+    let rows: &mut [ThreadRow] = &mut s.tables.threads;
+    if n < rows.len() {
+        rows[n] = row;
     }
 }
 
+#[tactic(auto, using(crate::proofs::Past::tag_past))]
 pub fn put_tag(s: &mut State, n: usize, row: TagRow)
     ensures { s.new ≡ tag_put s.old n row }
 {
-    if n < TAGS {
-        s.tables.kinds[n] = row;
+    let rows: &mut [TagRow] = &mut s.tables.kinds;
+    if n < rows.len() {
+        rows[n] = row;
     }
 }
 
+#[tactic(auto, using(crate::proofs::Past::object_past))]
 pub fn put_object(s: &mut State, n: usize, row: ObjectRow)
     ensures { s.new ≡ object_put s.old n row }
 {
-    if n < OBJECTS {
-        s.tables.objects[n] = row;
+    let rows: &mut [ObjectRow] = &mut s.tables.objects;
+    if n < rows.len() {
+        rows[n] = row;
     }
 }
 
@@ -157,6 +165,7 @@ pub fn put_whole(s: &mut State, t: State)
 }
 
 // "The host may clear the memory between requests; this leaves the counters."
+#[tactic(auto, using(memory::proofs::Asking::forgets))]
 pub fn forget(s: &mut State)
     ensures { s.new ≡ cleared s.old }
 {
