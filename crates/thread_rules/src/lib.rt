@@ -49,6 +49,7 @@ fn is_no_thread(row: ThreadRow) -> bool
 }
 
 // One row of a thread obeys them all.
+#[tactic(auto, unfolding(crate::specs::ThreadRules::thread_holds))]
 fn thread_holds(row: ThreadRow, principals: u32, tags: u32) -> bool
     ensures { result ≡ thread_holds principals tags row }
 {
