@@ -59,6 +59,7 @@ fn now_is(s: Sight, o: Object, what: What) -> RowChange
 }
 
 // 12
+#[tactic(auto, unfolding(crate::specs::Objects::new_object))]
 fn new_object(s: Sight, k: ObjectKind, labels: LabelPair) -> Outcome
     ensures { result ≡ new_object s k labels }
 {
@@ -77,6 +78,7 @@ fn held_of(s: Sight) -> usize
 }
 
 // 16
+#[tactic(auto, unfolding(crate::specs::Objects::put))]
 fn decide_put(s: Sight, o: Object, m: Span) -> Outcome
     ensures { result ≡ put s o m }
 {
@@ -93,6 +95,7 @@ fn decide_put(s: Sight, o: Object, m: Span) -> Outcome
 }
 
 // 17
+#[tactic(auto, unfolding(crate::specs::Objects::get))]
 fn decide_get(s: Sight, o: Object) -> Outcome
     ensures { result ≡ get s o }
 {
@@ -109,6 +112,7 @@ fn decide_get(s: Sight, o: Object) -> Outcome
 }
 
 // 18
+#[tactic(auto, unfolding(crate::specs::Objects::lock))]
 fn decide_lock(s: Sight, o: Object) -> Outcome
     ensures { result ≡ lock s o }
 {

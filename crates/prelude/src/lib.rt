@@ -18,6 +18,7 @@ pub enum Checked {
     Stopped(Refusal),
 }
 
+#[tactic(auto, unfolding(crate::specs::Prelude::prelude))]
 pub fn check(s: Sight, kind: u8, r: Request) -> Checked
     ensures { result ≡ prelude s kind r }
 {
