@@ -2,8 +2,8 @@
 // acceptance". A record stands for the number that the core gives its link, and the core works on numbers: the
 // records are gathered as numbers, and what a request changes is put back into them.
 //
-// The borrow checker covers no function over a slice of structs. So each that takes one is thin, and proved by
-// hand; the two lists share the proofs (proofs/Shelf.antt and what stands on it).
+// The two lists share the lemmas of the loops over them: proofs/FindLaws.antt (`find`), GatherLaws.antt (`gather`),
+// Closing.antt (`remove`) and ClearLaws.antt (`clear`).
 #![tactic(auto)]
 
 pub mod principals;
