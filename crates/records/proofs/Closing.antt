@@ -44,11 +44,6 @@ module _ {A : Type 0} (z : A) (l : List A) (i : ℕ) where
       ∙ ap (λ (xs : List A). xs ++ drop i l) (append-nil (take i l)) ∙ take-append-drop i l
 
   module _ (k : ℕ) (h : i ≤ k) (g : k < length l) where
-    pub length-moving : length (moving k) ≡ length l
-    unfolding moving
-    length-moving =
-        length-append (moved k) (drop k l) ∙ ap₂ (λ (x y : ℕ). x + y) (length_moved k h g) (length-drop k l) ∙ omega arith
-
     -- what is to move next
     pub moving-next : get_or (moving k) (k + 1) z ≡ get_or l (k + 1) z
     unfolding moving
