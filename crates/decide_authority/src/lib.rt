@@ -74,6 +74,7 @@ fn caller_is_public(s: Sight) -> bool
 }
 
 // 01
+#[tactic(auto, unfolding(crate::specs::Authority::new_principal))]
 fn new_principal(s: Sight) -> Outcome
     ensures { result ≡ new_principal s }
 {
@@ -100,6 +101,7 @@ fn new_principal(s: Sight) -> Outcome
 }
 
 // 02
+#[tactic(auto, unfolding(crate::specs::Authority::delegate))]
 fn decide_delegate(s: Sight, links: &[u32], p: Principal, q: Principal) -> Outcome
     ensures { result ≡ delegate s links.now p q }
 {
@@ -133,6 +135,7 @@ fn removal(place: Found) -> ListChange
 }
 
 // 03
+#[tactic(auto, unfolding(crate::specs::Authority::revoke))]
 fn decide_revoke(s: Sight, links: &[u32], p: Principal, q: Principal) -> Outcome
     ensures { result ≡ revoke s links.now p q }
 {
@@ -144,6 +147,7 @@ fn decide_revoke(s: Sight, links: &[u32], p: Principal, q: Principal) -> Outcome
 }
 
 // 04
+#[tactic(auto, unfolding(crate::specs::Authority::tells_acts_for))]
 fn tell_acts_for(s: Sight, links: &[u32], p: Principal, q: Principal) -> Outcome
     ensures { result ≡ tells_acts_for s links.now p q }
 {
@@ -158,6 +162,7 @@ fn tell(b: bool) -> Outcome
 }
 
 // 05
+#[tactic(auto, unfolding(crate::specs::Authority::new_tag))]
 fn new_tag(s: Sight) -> Outcome
     ensures { result ≡ new_tag s }
 {
@@ -168,6 +173,7 @@ fn new_tag(s: Sight) -> Outcome
 }
 
 // 06
+#[tactic(auto, unfolding(crate::specs::Authority::new_subtag))]
 fn new_subtag(s: Sight, t: Tag, allowed: bool) -> Outcome
     ensures { result ≡ new_subtag s t allowed }
 {
@@ -178,6 +184,7 @@ fn new_subtag(s: Sight, t: Tag, allowed: bool) -> Outcome
 }
 
 // "64 tags 7", else the next number and the caller as its maker
+#[tactic(auto, unfolding(crate::specs::Authority::tag_if_room))]
 fn add_tag(s: Sight, rank: Rank) -> Outcome
     ensures { result ≡ tag_if_room s rank }
 {
@@ -192,6 +199,7 @@ fn add_tag(s: Sight, rank: Rank) -> Outcome
 }
 
 // 07
+#[tactic(auto, unfolding(crate::specs::Authority::grant))]
 fn decide_grant<'a>(
     s: Sight,
     links: &'a [u32],
@@ -225,6 +233,7 @@ fn decide_grant<'a>(
 }
 
 // 08
+#[tactic(auto, unfolding(crate::specs::Authority::ungrant))]
 fn decide_ungrant<'a>(
     s: Sight,
     links: &'a [u32],

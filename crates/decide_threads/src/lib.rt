@@ -21,6 +21,7 @@ fn with_labels(secrecy: Label, integrity: Label) -> Outcome
 }
 
 // 0B, with the labels S and I of the caller
+#[tactic(auto, unfolding(crate::specs::Threads::out_of_secrecy))]
 fn out_of_secrecy(own: LabelPair, t: Tag, allowed: bool) -> Outcome
     ensures { result ≡ out_of_secrecy own t allowed }
 {
@@ -36,6 +37,7 @@ fn out_of_secrecy(own: LabelPair, t: Tag, allowed: bool) -> Outcome
 }
 
 // 0C
+#[tactic(auto, unfolding(crate::specs::Threads::into_integrity))]
 fn into_integrity(own: LabelPair, t: Tag, allowed: bool) -> Outcome
     ensures { result ≡ into_integrity own t allowed }
 {
@@ -51,6 +53,7 @@ fn into_integrity(own: LabelPair, t: Tag, allowed: bool) -> Outcome
 }
 
 // 11
+#[tactic(auto, unfolding(crate::specs::Threads::returned))]
 fn return_back(calls: usize) -> Outcome
     ensures { result ≡ returned calls }
 {
@@ -61,6 +64,7 @@ fn return_back(calls: usize) -> Outcome
 }
 
 // 0E
+#[tactic(auto, unfolding(crate::specs::Threads::fork))]
 fn decide_fork(s: Sight, links: &[u32], p: Principal) -> Outcome
     ensures { result ≡ fork s links.now p }
 {
@@ -75,6 +79,7 @@ fn decide_fork(s: Sight, links: &[u32], p: Principal) -> Outcome
 }
 
 // 10
+#[tactic(auto, unfolding(crate::specs::Threads::call))]
 fn decide_call(s: Sight, links: &[u32], p: Principal) -> Outcome
     ensures { result ≡ call s links.now p }
 {
