@@ -124,6 +124,7 @@ fn follow_row<'a>(s: Sight, m: Recalled, links: &'a [u32], grants: &'a [u32], r:
 }
 
 // The whole of it: 1, 2, 3 and 4 in order, then the row. It changes nothing.
+#[tactic(auto, unfolding(crate::specs::Step::outcome_by))]
 fn consider<'a>(
     s: Sight,
     m: Recalled,
