@@ -4,7 +4,8 @@
 // Each function here is thin, and says in one equation which part it reads or replaces.
 #![tactic(auto)]
 
-ghost use Rattle.std.specs.Prelude.{◌≡◌, get_or, take};
+ghost use Rattle.std.specs.Prelude.{◌≡◌, get_or, length, take};
+ghost use Rattle.numbers.specs.Numbers.{most_threads, most_tags, most_objects, most_remembered};
 ghost use Rattle.tables.specs.Things.{no_thread, tag_at, object_at};
 ghost use Rattle.state.specs.Start.{cleared};
 ghost use Rattle.memory.specs.Notes.{tally_of, place_in};
@@ -105,6 +106,20 @@ pub fn whole(s: &State) -> State
     ensures { result ≡ s.now }
 {
     *s
+}
+
+// How many rows the tables have and how many pairs the memory, which their types say: for a caller that reasons about
+// a state that lies behind a reference. Nothing is done.
+pub fn sized(s: &State)
+    ensures threads { length s.now.tables.threads ≡ most_threads }
+    ensures kinds { length s.now.tables.kinds ≡ most_tags }
+    ensures objects { length s.now.tables.objects ≡ most_objects }
+    ensures pairs { length s.now.memory.pairs ≡ most_remembered }
+{
+    let _threads: &[ThreadRow] = &s.tables.threads;
+    let _kinds: &[TagRow] = &s.tables.kinds;
+    let _objects: &[ObjectRow] = &s.tables.objects;
+    let _pairs: &[u32] = &s.memory.pairs;
 }
 
 // ---- what is written

@@ -16,7 +16,7 @@ ghost use Rattle.step.specs.Look.{seen_of, step_of};
 use act::{Recalled, act, asking_of, question_of};
 use apply::rows::Writes;
 use frames::requests::Request;
-use lent::{note, place_of, put_counts, put_object, put_tag, put_thread, tally, thread_at};
+use lent::{note, place_of, put_counts, put_object, put_tag, put_thread, sized, tally, thread_at};
 use memory::Note;
 use outcomes::ListChange;
 use sight::{Sight, sight_of};
@@ -91,6 +91,7 @@ pub fn step(
     ensures store_after { store.new ≡ (stepped s.old links.now grants.now store.old frame.now answer.old).store }
     ensures answer_after { answer.new ≡ (stepped s.old links.now grants.now store.old frame.now answer.old).answer }
 {
+    sized(s);
     let seen = look(s, frame);
     let acted = act(
         seen.sight,

@@ -1,9 +1,0 @@
-pub mod Hearing
-pub mod Slices
-pub mod Looking
-pub mod Acting
-mod OfBytes
-mod StepKinds
-pub mod Turning
-pub mod OneStep
-pub mod Places
