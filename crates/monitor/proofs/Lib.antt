@@ -1,4 +1,1 @@
-pub mod Relending
 pub mod Entering
-pub mod Replying
-pub mod Testing

@@ -31,6 +31,7 @@ fn quiet(status: u8) -> Stepped
 }
 
 // 10, then 9: the number, or 0 where the request goes on.
+#[tactic(auto, unfolding(crate::specs::Monitor::stop_of, crate::specs::Monitor::stop_answer))]
 fn stop<'a>(
     s: State,
     links: &'a [u32],
