@@ -49,6 +49,8 @@ pub fn request(
     ensures store_after { store.new ≡ (over_records s.old links.old grants.old store.old frame.now answer.old).store }
     ensures answer_after { answer.new ≡ (over_records s.old links.old grants.old store.old frame.now answer.old).answer }
 {
+    principals::numbered(links);
+    tags::numbered(grants);
     let numbers = principals::numbers_of(links);
     let tag_numbers = tags::numbers_of(grants);
     let n = whole_places(links.len());

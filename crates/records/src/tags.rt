@@ -1,5 +1,5 @@
 // The list of tag links, as records.
-ghost use Rattle.std.specs.Prelude.{◌≡◌, map, take, replicate};
+ghost use Rattle.std.specs.Prelude.{◌≡◌, ◌<◌, map, take, replicate};
 ghost use Rattle.links.specs.Links.{find_in, appended, gap_closed};
 ghost use Rattle.records.specs.Records.{tag_number, tag_link, gathered, changed, cleared};
 
@@ -34,6 +34,27 @@ pub fn link_of(x: u32) -> TagLink
         tag: Tag((x / 65536 % 256) as u8),
         from: Principal((x / 256 % 256) as u8),
         to: Principal((x % 256) as u8),
+    }
+}
+
+// The fields of a link are bytes.
+fn in_bytes(l: TagLink)
+    ensures { (l.tag.0 < 256) × (l.from.0 < 256) × (l.to.0 < 256) }
+{
+    let _tag = l.tag.0;
+    let _from = l.from.0;
+    let _to = l.to.0;
+}
+
+// Each link is that of its number, since its fields are bytes: for a caller that reasons about the numbers of all of
+// them. Nothing is done.
+pub fn numbered(links: &[TagLink])
+    ensures { map tag_link (map tag_number links.now) ≡ links.now }
+{
+    let mut i = 0;
+    while i < links.len() {
+        in_bytes(links[i]);
+        i += 1;
     }
 }
 
