@@ -1,7 +1,7 @@
 //! Where the program `bench` finds the proved functions on links: the archive that
-//! `rt staticlib links_c` writes into target/staticlib of the repository. The
-//! environment variable STATICLIB names another directory to take it from. The program
-//! `lines` is built without it.
+//! `rt lib` in crates/links_c writes into the crate's out/. The environment variable
+//! STATICLIB names another directory to take it from. The program `lines` is built
+//! without it.
 
 use std::env;
 use std::path::PathBuf;
@@ -14,7 +14,7 @@ fn main() {
     println!("cargo:rerun-if-changed={}", archive.display());
     if !archive.is_file() {
         let missing = format!("there is no {}", archive.display());
-        let remedy = "run `rt staticlib links_c` in the repository first";
+        let remedy = "run `rt lib` in the repository's crates/links_c first";
         println!("cargo:warning={}: to build bench, {}", missing, remedy);
     }
 }
@@ -23,6 +23,6 @@ fn directory() -> PathBuf {
     let package = PathBuf::from(env::var_os("CARGO_MANIFEST_DIR").expect("cargo sets it"));
     match env::var_os("STATICLIB") {
         Some(named) => package.join(named),
-        None => package.join("../target/staticlib"),
+        None => package.join("../crates/links_c/out"),
     }
 }

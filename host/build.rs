@@ -1,6 +1,6 @@
-//! Where the proved library is found: the archive that `rt staticlib suvdorkhun_c`
-//! writes into target/staticlib of the repository. The environment variable STATICLIB
-//! names another directory to take it from.
+//! Where the proved library is found: the archive that `rt lib` in crates/suvdorkhun_c
+//! writes into the crate's out/. The environment variable STATICLIB names another
+//! directory to take it from.
 
 use std::env;
 use std::path::PathBuf;
@@ -15,7 +15,7 @@ fn main() {
     println!("cargo:rerun-if-changed={}", archive.display());
     if !archive.is_file() {
         let missing = format!("there is no {}", archive.display());
-        let remedy = "run `rt staticlib suvdorkhun_c` in the repository first";
+        let remedy = "run `rt lib` in the repository's crates/suvdorkhun_c first";
         println!("cargo:warning={}: {}", missing, remedy);
     }
 }
@@ -24,6 +24,6 @@ fn directory() -> PathBuf {
     let package = PathBuf::from(env::var_os("CARGO_MANIFEST_DIR").expect("cargo sets it"));
     match env::var_os("STATICLIB") {
         Some(named) => package.join(named),
-        None => package.join("../target/staticlib"),
+        None => package.join("../crates/suvdorkhun_c/out"),
     }
 }

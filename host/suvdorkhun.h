@@ -1,5 +1,5 @@
-/* Suvdorkhun for C and C++: what crosses to the proved library, which `rt staticlib suvdorkhun_c` writes
- * as target/staticlib/libsuvdorkhun_c.a. "01" is the scope paper.
+/* Suvdorkhun for C and C++: what crosses to the proved library, which `rt lib` in crates/suvdorkhun_c writes
+ * as out/libsuvdorkhun_c.a. "01" is the scope paper.
  *
  * The caller lends the state, the two lists of links and the store, and the monitor keeps nothing of its own
  * between calls. Every field is a number, so any bytes are a state: tables that break a rule are refused 9,

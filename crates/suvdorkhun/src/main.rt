@@ -4,24 +4,23 @@
 // standard error and ends it.
 #![tactic(auto)]
 
-ghost use Rattle.std.specs.Prelude.{◌≡◌, ◌⊎◌, ◌≤◌, ◌<◌, length};
+ghost use Rattle.std.specs.Prelude.{◌≡◌, ◌⊎◌, ◌≤◌, ◌<◌, IfOk, length};
 
 use entry::{Lists, no_links};
-use libc::{STDIN_FILENO, STDOUT_FILENO};
 use session::{Line, feed, finish};
 use state::{State, start};
+use std::io::{self, ErrorKind, Read, Stdin, Stdout};
 
 // "The line program has M = 8"
 const MEMORY: usize = 8;
 
-// What goes from block to block: whether there is more to read, and whether nothing failed.
+// What goes from block to block: whether there is more to read.
 #[derive(Clone, Copy)]
 struct Served {
     state: State,
     lists: Lists,
     line: Line,
     more: bool,
-    well: bool,
 }
 
 // What goes from piece to piece of a block, and how much of it was read.
@@ -31,88 +30,95 @@ struct Piece {
     lists: Lists,
     line: Line,
     read: usize,
-    well: bool,
 }
 
 // Writes the first n bytes; there are no more than the buffer has.
-fn write_out(out: &[u8], n: usize) -> bool {
+fn write_out(stdout: Stdout, out: &[u8], n: usize) -> io::Result<()> {
     if out.len() < n {
-        return false;
+        return Err(ErrorKind::InvalidInput.into());
     }
-    let is_written = io::write_all(STDOUT_FILENO, &out[..n]);
-    if !is_written {
-        os::fail(&[b'w', b'r', b'i', b't', b'e']);
-    }
-    is_written
+    stdout.write_all(&out[..n])
 }
 
 // Answers as much of a piece as the output buffer has room for: at least its first byte.
-fn serve_piece(s: State, l: Lists, store: &mut [u8], line: Line, piece: &[u8]) -> Piece
-    ensures read_in_bounds { result.read ≤ length piece.now }
-    ensures piece_len { length piece.now ≡ 0 ⊎ 0 < result.read }
+fn serve_piece(
+    stdout: Stdout,
+    s: State,
+    l: Lists,
+    store: &mut [u8],
+    line: Line,
+    piece: &[u8],
+) -> io::Result<Piece>
+    ensures read_in_bounds { IfOk result (λ p. p.read ≤ length piece.now) }
+    ensures piece_len { IfOk result (λ p. length piece.now ≡ 0 ⊎ 0 < p.read) }
 {
-    let mut out = io::large_buffer();
+    let mut out = [0; 65536];
     let fed = feed(s, l, store, line, piece, &mut out);
     let state = fed.state;
     let lists = fed.lists;
     let line = fed.line;
-    let well = write_out(&out, fed.written);
-    Piece {
+    write_out(stdout, &out, fed.written)?;
+    Ok(Piece {
         state,
         lists,
         line,
         read: fed.read,
-        well,
-    }
+    })
 }
 
 // Answers a block, in as many pieces as the output buffer needs.
-fn serve_block(s: State, l: Lists, store: &mut [u8], line: Line, block: &[u8]) -> Served {
+fn serve_block(
+    stdout: Stdout,
+    s: State,
+    l: Lists,
+    store: &mut [u8],
+    line: Line,
+    block: &[u8],
+) -> io::Result<Served> {
     let mut state = s;
     let mut lists = l;
     let mut pending = line;
-    let mut well = true;
     let mut from = 0;
-    while well & (from < block.len()) {
-        let p = serve_piece(state, lists, store, pending, &block[from..]);
+    while from < block.len() {
+        let p = serve_piece(stdout, state, lists, store, pending, &block[from..])?;
         state = p.state;
         lists = p.lists;
         pending = p.line;
-        well = p.well;
         from += p.read;
     }
-    Served {
+    Ok(Served {
         state,
         lists,
         line: pending,
         more: true,
-        well,
-    }
+    })
 }
 
 // Reads once and answers what came.
-fn serve_some(s: State, l: Lists, store: &mut [u8], line: Line) -> Served {
-    let mut block = io::large_buffer();
-    let got = libc::read(STDIN_FILENO, &mut block);
-    if got < 0 {
-        os::fail(&[b'r', b'e', b'a', b'd']);
-    }
-    if got <= 0 {
-        return Served {
+fn serve_some(
+    mut stdin: Stdin,
+    stdout: Stdout,
+    s: State,
+    l: Lists,
+    store: &mut [u8],
+    line: Line,
+) -> io::Result<Served> {
+    let mut block = [0; 65536];
+    let n = stdin.read(&mut block)?;
+    if n == 0 {
+        return Ok(Served {
             state: s,
             lists: l,
             line,
             more: false,
-            well: got == 0,
-        };
+        });
     }
-    let n = io::count(got, &block);
-    serve_block(s, l, store, line, &block[..n])
+    serve_block(stdout, s, l, store, line, &block[..n])
 }
 
 // A proved loop has to end, and nothing says that the input does. So the loop counts its turns down, from a
 // number that no run uses up.
-fn serve(s: State, l: Lists, store: &mut [u8]) {
+fn serve(stdin: Stdin, stdout: Stdout, s: State, l: Lists, store: &mut [u8]) -> io::Result<()> {
     let mut state = s;
     let mut lists = l;
     let mut line = Line {
@@ -120,28 +126,23 @@ fn serve(s: State, l: Lists, store: &mut [u8]) {
         bytes: [0; 73],
     };
     let mut more = true;
-    let mut well = true;
     let mut turns = u64::MAX;
-    while (more & well) & (turns > 0) {
-        let served = serve_some(state, lists, store, line);
+    while more & (turns > 0) {
+        let served = serve_some(stdin, stdout, state, lists, store, line)?;
         state = served.state;
         lists = served.lists;
         line = served.line;
         more = served.more;
-        well = served.well;
         turns -= 1;
     }
-    if !well {
-        return;
-    }
-    let mut out = io::buffer();
+    let mut out = [0; 4096];
     let finished = finish(state, lists, store, line, &mut out, 0);
-    write_out(&out, finished.written);
+    write_out(stdout, &out, finished.written)
 }
 
-fn main() {
+fn main(rt: HostRuntime) -> io::Result<()> {
     let mut store = [0u8; 16896];
     let started = start(MEMORY, &mut store);
     let state = started.state;
-    serve(state, no_links(), &mut store);
+    serve(rt.stdin(), rt.stdout(), state, no_links(), &mut store)
 }
