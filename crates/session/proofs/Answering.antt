@@ -6,7 +6,7 @@ use Prim.Native.Nat.{ℕ, ◌+◌, ◌/◌, ◌≤◌, ◌<◌}
 use native.Mathlib.Omega.{arith}
 use lib.Dec.{ltb}
 use lib.ListN.{length, take, drop, set, replicate, length-take, length-append}
-use lib.Seq.{length-take-le, set_split, take_at}
+use lib.Seq.{length-take-le, set_split, take_at, take_all}
 use Rattle.numbers.proofs.Bools.{and_left, by-test}
 use Rattle.numbers.proofs.Chain.{skip, hit}
 use Rattle.answers.specs.declared.Refusal.TheVariants.{Malformed, BrokenRule}
@@ -21,6 +21,7 @@ use Rattle.entry.specs.Entry.{over_records, lists_of}
 use Rattle.state.specs.declared.State.{State}
 use Rattle.act.specs.Step.{Replied, After, before, step_answer, stepped}
 use Rattle.store.specs.Store.{over}
+use Rattle.session.specs.declared.Line.{Line}
 use Rattle.session.specs.Session.{Session, line_bytes, line_answered, answered_lists, turn, turned, end_of, printed}
 
 -- ---- a line z that is a frame, or that is none
@@ -47,6 +48,14 @@ module _ (s : State) (x : Lists) (b z a : List ℕ) where
 
   pub lists-frame : is_frame z ≡ true → lists_of (over_records s x.links x.grants b (frame_of z) a) ≡ answered_lists s x b z a
   lists-frame e = hit _ e refl
+
+  -- and so it is as it was read into a buffer
+  module _ (l r : List ℕ) (e : is_frame z ≡ true) (q : r ≡ cond (right_length z) (over l 0 (frame_of z)) l) where
+    pub frame-request : over_records s x.links x.grants b (take (length z / 2) r) a ≡ line_answered s x b z a
+    frame-request = ap (λ (v : List ℕ). over_records s x.links x.grants b v a) (frame-read z l r e q) ∙ when-frame e
+
+    pub frame-lists : lists_of (over_records s x.links x.grants b (take (length z / 2) r) a) ≡ answered_lists s x b z a
+    frame-lists = ap (λ (v : List ℕ). lists_of (over_records s x.links x.grants b v a)) (frame-read z l r e q) ∙ lists-frame e
 
   -- any other line is refused 1
   pub when-none :
@@ -126,3 +135,19 @@ module _ {z : Session} {r : Replied} {m : List ℕ} (a : LineAnswered z r m) whe
   end_is {x} e =
       ap₂ (λ (s : State) (n : ℕ). record { state = s; lists = x; written = n }) (ap (λ (v : Replied). v.state) a.reply) printed-length
       ∙ ap (λ (v : Lists). record { state = (turned z).state; lists = v; written = length (printed z) }) e
+
+-- the bytes of the line in the making z, n of a buffer that holds 73
+pub line-held : (x : Line) (n : ℕ) → n ≡ x.held → take n x.bytes ≡ line_bytes x
+line-held x n e = ap (λ (k : ℕ). take k x.bytes) e
+
+pub line-full : (x : Line) (n : ℕ) → length x.bytes ≤ n → length x.bytes ≤ x.held → take n x.bytes ≡ line_bytes x
+line-full x n h k = take_all n x.bytes h ∙ sym (take_all x.held x.bytes k)
+
+-- the answer of the bytes zs, which are those of the line
+pub line-answered :
+    (z : Session) {zs : List ℕ} {r : Replied} {m : List ℕ} → zs ≡ line_bytes z.line
+    → r ≡ (line_answered z.state z.lists z.store zs (replicate shortest_buffer 0)).replied
+    → m ≡ (line_answered z.state z.lists z.store zs (replicate shortest_buffer 0)).answer → length m ≡ shortest_buffer → LineAnswered z r m
+line-answered z {zs} same e q k =
+    let is = ap (λ (x : List ℕ). line_answered z.state z.lists z.store x (replicate shortest_buffer 0)) same in
+    record { reply = e ∙ ap (λ (x : After). x.replied) is; buffer = q ∙ ap (λ (x : After). x.answer) is; kept = k }

@@ -32,6 +32,18 @@ pub record Leaves (z : Session) (input o : List ℕ) (f : Fed) (b p : List ℕ) 
   pub bytes : p ≡ over o 0 (fed_bytes z input o)
   pub kept : length p ≡ length o
 
+-- feeding from x, which is z
+pub fed-leaves :
+    {z x : Session} (input o : List ℕ) {f : Fed} {b p : List ℕ} → x ≡ z → f ≡ fed x input o → b ≡ (fed_session x input o).store
+    → p ≡ over o 0 (fed_bytes x input o) → length p ≡ length o → Leaves z input o f b p
+fed-leaves input o begun e q w k =
+    record {
+      result = e ∙ ap (λ (v : Session). fed v input o) begun;
+      store = q ∙ ap (λ (v : Session). (fed_session v input o).store) begun;
+      bytes = w ∙ ap (λ (v : Session). over o 0 (fed_bytes v input o)) begun;
+      kept = k;
+    }
+
 -- what a run says that began so
 abbrev said : Started → State → Lists → ℕ → ℕ → Bool → Ran
 said a s x i n k = record { status = a.status; state = s; lists = x; read = i; written = n; complete = k }
