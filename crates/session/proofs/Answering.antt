@@ -1,14 +1,14 @@
 -- What a whole line leaves: its frame's request, or a refusal 1; and that the answer of either lies within its buffer. Assumes nothing.
 use mathlib.Core.Path.{◌≡◌, refl, sym, ap, ap₂, ◌∙◌}
-use mathlib.Core.Bool.{true, false, not, cond}
+use mathlib.Core.Bool.{true, not, cond}
 use mathlib.Core.List.{List, [], ◌∷◌, map}
-use Prim.Native.Nat.{ℕ, ◌+◌, ◌/◌, ◌≤◌, ◌<◌}
+use Prim.Native.Nat.{ℕ, ◌+◌, ◌/◌, ◌≤◌}
 use native.Mathlib.Omega.{arith}
 use lib.Dec.{ltb}
-use lib.ListN.{length, take, drop, set, replicate, length-take, length-append}
-use lib.Seq.{length-take-le, set_split, take_at, take_all}
+use lib.ListN.{length, take, drop, replicate, length-append}
+use lib.Seq.{length-take-le, take_at, take_all}
 use Rattle.numbers.proofs.Bools.{and_left, by-test}
-use Rattle.numbers.proofs.Chain.{skip, hit}
+use Rattle.numbers.proofs.Chain.{hit}
 use Rattle.answers.specs.declared.Refusal.TheVariants.{Malformed, BrokenRule}
 use Rattle.answers.specs.Answers.{refusal_number, front}
 use Rattle.lines.specs.Lines.{line_feed, frame_of, all_digits, right_length, is_frame, digits_in, line_of}
@@ -24,7 +24,7 @@ use Rattle.store.specs.Store.{over}
 use Rattle.session.specs.declared.Line.{Line}
 use Rattle.session.specs.Session.{Session, line_bytes, line_answered, answered_lists, turn, turned, end_of, printed}
 
--- ---- a line z that is a frame, or that is none
+-- ---- a line z that is a frame
 
 -- its frame stands at the front of a buffer that it was read into
 module _ (z l r : List ℕ) (e : is_frame z ≡ true) (q : r ≡ cond (right_length z) (over l 0 (frame_of z)) l) where
@@ -32,14 +32,6 @@ module _ (z l r : List ℕ) (e : is_frame z ≡ true) (q : r ≡ cond (right_len
   frame-read =
       ap (take (length z / 2)) (q ∙ sym (hit l (and_left (right_length z) (all_digits z) e) refl))
       ∙ take_at (frame_of z) (drop (0 + length (frame_of z)) l) (length z / 2) (frame-length z)
-
-  -- it has half as many bytes as the line
-  pub frame-count : length z / 2 ≡ length (take (length z / 2) r)
-  frame-count = sym (ap length frame-read ∙ frame-length z)
-
-  -- and they lie within the buffer
-  pub frame-fits : length z / 2 ≤ length r
-  frame-fits = omega (arith, frame-count, length-take (length z / 2) r)
 
 module _ (s : State) (x : Lists) (b z a : List ℕ) where
   -- a frame is a request
@@ -56,16 +48,6 @@ module _ (s : State) (x : Lists) (b z a : List ℕ) where
 
     pub frame-lists : lists_of (over_records s x.links x.grants b (take (length z / 2) r) a) ≡ answered_lists s x b z a
     frame-lists = ap (λ (v : List ℕ). lists_of (over_records s x.links x.grants b v a)) (frame-read z l r e q) ∙ lists-frame e
-
-  -- any other line is refused 1
-  pub when-none :
-      is_frame z ≡ false → 0 < length a
-      → record { replied = record { status = 1; written = 1; state = s }; links = map principal_number x.links; grants = map tag_number x.grants; store = b; answer = set a 0 1 } ≡ line_answered s x b z a
-  when-none e h =
-      skip _ e (ap (λ (v : List ℕ). record { replied = record { status = 1; written = 1; state = s }; links = map principal_number x.links; grants = map tag_number x.grants; store = b; answer = v }) (set_split a 0 1 h))
-
-  pub lists-none : is_frame z ≡ false → x ≡ answered_lists s x b z a
-  lists-none e = skip _ e refl
 
 -- ---- where the answer buffer keeps its length, what was written lies within it
 

@@ -11,8 +11,8 @@ use Rattle.numbers.proofs.Chain.{skip, hit}
 use Rattle.lines.specs.Lines.{digits_in}
 use Rattle.memory.specs.declared.Memory.{Memory}
 use Rattle.store.specs.Store.{over}
-use Rattle.store.proofs.Over.{over_none, over-over}
-use Rattle.session.specs.Session.{Session, has_last, turned, printed, last_line, ending, ended}
+use Rattle.store.proofs.Over.{over-over}
+use Rattle.session.specs.Session.{Session, has_last, turned, printed, last_line}
 use Rattle.session.specs.Run.{can_end, end_session, end_bytes, finished}
 
 -- the last line's 9 bytes and its LF
@@ -38,10 +38,6 @@ module _ (z : Session) (o : List ℕ) (at : ℕ) where
         ∙ ap (λ (x : Bool). record { state = (end_session z o at).state; lists = (end_session z o at).lists; written = length (end_bytes z o at); complete = x }) c,
     (ap (λ (x : Session). x.store) e, w ∙ ap (over o at) q),
   )
-
-  -- no room
-  pub without-room : can_end z o at ≡ false → Finishes z o 0 false
-  without-room c = finishes (skip (ended z) c refl) (skip (ending z) c refl) (sym c) (sym (over_none o at)) refl
 
   module _ (c : can_end z o at ≡ true) where
     -- no byte is left

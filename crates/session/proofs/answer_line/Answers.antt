@@ -1,3 +1,4 @@
+-- `session::answer_line` meets its contract: a refusal 1, or the request of the line's frame. Assumes nothing.
 use mathlib.Core.Path.{sym, ap, ◌∙◌}
 use lib.ListN.{replicate}
 use Rattle.entry.specs.declared.Answered.{Answered}

@@ -1,3 +1,4 @@
+-- `session::end_line` meets its contract: the line's bytes are answered, and the answer is put as a line. Assumes nothing.
 use Rattle.std.proofs.Common.{rules, ◌≡◌, length, take, ℕ, List}
 use mathlib.Core.Path.{ap, ◌∙◌}
 use native.Mathlib.Omega.{arith}

@@ -1,3 +1,4 @@
+-- `session::feed` meets its contract: each byte that is taken ends a line or is kept, while there is room for an answer. Assumes nothing.
 use mathlib.Core.Path.{refl, ap, ◌∙◌}
 use Prim.Native.Nat.{◌-◌}
 use native.Mathlib.Omega.{arith}

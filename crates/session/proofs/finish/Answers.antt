@@ -1,3 +1,4 @@
+-- `session::finish` meets its contract: nothing, the last line, or an answer and the last line. Assumes nothing.
 use mathlib.Core.Path.{◌≡◌, sym, ap, ◌∙◌}
 use mathlib.Core.Bool.{true}
 use Prim.Native.Nat.{◌+◌, ◌≤◌}

@@ -1,3 +1,4 @@
+-- `session::run` meets its contract: the start, the whole input, and its end where all was read. Assumes nothing.
 use mathlib.Core.Path.{◌≡◌, ap}
 use native.Mathlib.Omega.{arith}
 use Rattle.state.specs.declared.Started.{Started}
