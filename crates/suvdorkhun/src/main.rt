@@ -9,7 +9,7 @@ ghost use Rattle.std.specs.Prelude.{◌≡◌, ◌⊎◌, ◌≤◌, ◌<◌, If
 use entry::{Lists, no_links};
 use session::{Line, feed, finish};
 use state::{State, start};
-use std::io::{self, ErrorKind, Read, Stdin, Stdout};
+use std::io::{self, Read, Stdin, Stdout};
 
 // "The line program has M = 8"
 const MEMORY: usize = 8;
@@ -32,12 +32,9 @@ struct Piece {
     read: usize,
 }
 
-// Writes the first n bytes; there are no more than the buffer has.
-fn write_out(stdout: Stdout, out: &[u8], n: usize) -> io::Result<()> {
-    if out.len() < n {
-        return Err(ErrorKind::InvalidInput.into());
-    }
-    stdout.write_all(&out[..n])
+// Writes the bytes, all of them, or fails.
+fn write_out(stdout: Stdout, out: &[u8]) -> io::Result<()> {
+    stdout.write_all(out)
 }
 
 // Answers as much of a piece as the output buffer has room for: at least its first byte.
@@ -57,7 +54,7 @@ fn serve_piece(
     let state = fed.state;
     let lists = fed.lists;
     let line = fed.line;
-    write_out(stdout, &out, fed.written)?;
+    write_out(stdout, &out[..fed.written])?;
     Ok(Piece {
         state,
         lists,
@@ -137,7 +134,7 @@ fn serve(stdin: Stdin, stdout: Stdout, s: State, l: Lists, store: &mut [u8]) -> 
     }
     let mut out = [0; 4096];
     let finished = finish(state, lists, store, line, &mut out, 0);
-    write_out(stdout, &out, finished.written)
+    write_out(stdout, &out[..finished.written])
 }
 
 fn main(rt: HostRuntime) -> io::Result<()> {
