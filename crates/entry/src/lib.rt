@@ -89,8 +89,7 @@ pub struct Answered {
     pub lists: Lists,
 }
 
-// The request of a caller that holds its state and lists by value: they are lent for it. A function that calls this
-// one is covered again.
+// The request of a caller that holds its state and lists by value: they are lent for it.
 pub fn request_with(
     s: State,
     lists: Lists,
