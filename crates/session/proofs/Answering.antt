@@ -1,13 +1,15 @@
 -- What a whole line leaves: its frame's request, or a refusal 1; and that the answer of either lies within its buffer. Assumes nothing.
 use mathlib.Core.Path.{◌≡◌, refl, sym, ap, ap₂, ◌∙◌}
-use mathlib.Core.Bool.{true, not, cond}
+use mathlib.Core.Bool.{true, false, not, cond}
 use mathlib.Core.List.{List, [], ◌∷◌, map}
-use Prim.Native.Nat.{ℕ, ◌+◌, ◌/◌, ◌≤◌}
+use Prim.Native.Nat.{ℕ, ◌+◌, ◌/◌, ◌≤◌, min}
 use native.Mathlib.Omega.{arith}
 use lib.Dec.{ltb}
 use lib.ListN.{length, take, drop, replicate, length-append}
 use lib.Seq.{length-take-le, take_at, take_all}
-use Rattle.numbers.proofs.Bools.{and_left, by-test}
+use mathlib.Core.Logic.{◌⊎◌, inl, inr}
+use borrow.Author.Tests.{ltb-true, ltb-false}
+use Rattle.numbers.proofs.Bools.{and_left, by-test, either}
 use Rattle.numbers.proofs.Chain.{hit}
 use Rattle.answers.specs.declared.Refusal.TheVariants.{Malformed, BrokenRule}
 use Rattle.answers.specs.Answers.{refusal_number, front}
@@ -119,11 +121,14 @@ module _ {z : Session} {r : Replied} {m : List ℕ} (a : LineAnswered z r m) whe
       ∙ ap (λ (v : Lists). record { state = (turned z).state; lists = v; written = length (printed z) }) e
 
 -- the bytes of the line in the making z, n of a buffer that holds 73
-pub line-held : (x : Line) (n : ℕ) → n ≡ x.held → take n x.bytes ≡ line_bytes x
-line-held x n e = ap (λ (k : ℕ). take k x.bytes) e
-
-pub line-full : (x : Line) (n : ℕ) → length x.bytes ≤ n → length x.bytes ≤ x.held → take n x.bytes ≡ line_bytes x
-line-full x n h k = take_all n x.bytes h ∙ sym (take_all x.held x.bytes k)
+pub line-kept : (x : Line) (n : ℕ) → length x.bytes ≡ 73 → n ≡ min x.held 73 → take n x.bytes ≡ line_bytes x
+line-kept x n size e = ap (λ (k : ℕ). take k x.bytes) e ∙ some (either (ltb x.held 73))
+  where
+    some : (ltb x.held 73 ≡ true) ⊎ (ltb x.held 73 ≡ false) → take (min x.held 73) x.bytes ≡ line_bytes x
+    some (inl t) = let k : min x.held 73 ≡ x.held = omega (arith, ltb-true x.held 73 t) in ap (λ (i : ℕ). take i x.bytes) k
+    some (inr f) =
+        let past : 73 ≤ x.held = ltb-false x.held 73 f in
+        take_all (min x.held 73) x.bytes (omega (arith, past, size)) ∙ sym (take_all x.held x.bytes (omega (arith, past, size)))
 
 -- the answer of the bytes zs, which are those of the line
 pub line-answered :
@@ -133,3 +138,10 @@ pub line-answered :
 line-answered z {zs} same e q k =
     let is = ap (λ (x : List ℕ). line_answered z.state z.lists z.store x (replicate shortest_buffer 0)) same in
     record { reply = e ∙ ap (λ (x : After). x.replied) is; buffer = q ∙ ap (λ (x : After). x.answer) is; kept = k }
+
+-- the same of the first bytes of the line, of which n are kept
+pub line-ended :
+    (z : Session) {n : ℕ} {r : Replied} {m : List ℕ} → length z.line.bytes ≡ 73 → n ≡ min z.line.held 73
+    → r ≡ (line_answered z.state z.lists z.store (take n z.line.bytes) (replicate shortest_buffer 0)).replied
+    → m ≡ (line_answered z.state z.lists z.store (take n z.line.bytes) (replicate shortest_buffer 0)).answer → length m ≡ shortest_buffer → LineAnswered z r m
+line-ended z {n} size kept = line-answered z (line-kept z.line n size kept)
