@@ -1,4 +1,3 @@
-pub mod Considering
 pub mod Ind
 pub mod Room
 pub mod Writing

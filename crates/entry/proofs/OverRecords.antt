@@ -4,7 +4,7 @@ use mathlib.Core.Path.{◌≡◌, refl, sym, ap, ap₂, ◌∙◌}
 use mathlib.Core.Bool.{Bool, true, false, not, cond}
 use mathlib.Core.List.{List, [], ◌∷◌, ◌++◌, map, append-nil}
 use mathlib.Core.Logic.{⊎_elim}
-use Prim.Native.Nat.{ℕ, zero, suc, ◌≤◌, min}
+use Prim.Native.Nat.{ℕ, zero, suc, min}
 use native.Mathlib.Omega.{arith}
 use borrow.Author.Tests.{eq-eqb, eqb-true, eqb-false}
 use lib.Dec.{eqb, ltb}
@@ -88,9 +88,6 @@ places-whole n e = sym (hit 0 (eq-eqb n 256 e) refl)
 
 places-odd : (n : ℕ) → eqb n 256 ≡ false → whole_places n ≡ 0
 places-odd n e = sym (skip 256 e refl)
-
-pub places-low : (n : ℕ) → whole_places n ≤ 256
-places-low n = ⊎_elim (λ e. omega (arith, places-whole n (eqb-true n 256 e))) (λ e. omega (arith, places-odd n e)) (either (eqb n 256))
 
 module _ {A : Type 0} (number : A → ℕ) (ys : List A) where
   abbrev handed : List ℕ

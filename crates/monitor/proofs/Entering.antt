@@ -55,18 +55,6 @@ module _ (s : State) (l g b f a : List ℕ) where
 
   -- ---- the tests of 10 and 9 by their number
 
-  pub stop-short : ltb (length a) shortest_buffer ≡ true → (10 ≡ stop_of s l g b f a) × (a ≡ stop_answer s l g b f a)
-  unfolding stop_of stop_answer
-  stop-short e = (hit _ e refl, hit _ e refl)
-
-  pub stop-broken : ltb (length a) shortest_buffer ≡ false → not (break_no_rule s.tables s.memory l g b) ≡ true → (9 ≡ stop_of s l g b f a) × ((broken s l g b f a).answer ≡ stop_answer s l g b f a)
-  unfolding stop_of stop_answer
-  stop-broken e q = (skip 10 e (hit 0 q refl), skip a e (hit a q refl))
-
-  pub stop-none : ltb (length a) shortest_buffer ≡ false → not (break_no_rule s.tables s.memory l g b) ≡ false → (0 ≡ stop_of s l g b f a) × (a ≡ stop_answer s l g b f a)
-  unfolding stop_of stop_answer
-  stop-none e q = (skip 10 e (skip 9 q refl), skip a e (skip (broken s l g b f a).answer q refl))
-
   -- what a request leaves that one of them stops, and what is told of it
   pub stops : 0 < stop_of s l g b f a
       → (quiet (stop_of s l g b f a) ≡ reply_of s l g b f a) × ((s ≡ (requested s l g b f a).replied.state) × ((b ≡ (requested s l g b f a).store) × (stop_answer s l g b f a ≡ (requested s l g b f a).answer)))

@@ -14,15 +14,16 @@ use Rattle.numbers.proofs.Chain.{hit, and-stop, and-go}
 use Rattle.entry.specs.declared.Lists.{Lists}
 use Rattle.state.specs.declared.State.{State}
 use Rattle.state.specs.declared.Started.{Started}
-use Rattle.state.specs.Start.{started}
+use Rattle.state.specs.Start.{started, zeroed}
+use Rattle.entry.specs.Entry.{no_links}
 use Rattle.store.specs.Store.{over}
 use Rattle.store.proofs.Over.{over-over}
 use Rattle.session.specs.declared.Fed.{Fed}
 use Rattle.session.specs.declared.Finished.{Finished}
 use Rattle.session.specs.declared.Ran.{Ran}
-use Rattle.session.specs.Session.{Session, session_of, after, output, ending, ended}
+use Rattle.session.specs.Session.{Session, no_line, session_of, after, output, ending, ended}
 use Rattle.session.specs.Run.{ending_room, readable, fed, fed_session, fed_bytes, can_end, end_session, end_bytes, finished, begin, lines_of, complete, ran, ran_session, ran_bytes}
-use Rattle.session.proofs.SessionLaws.{readable-within}
+use Rattle.session.proofs.SessionLaws.{readable-within, same-session}
 use Rattle.session.proofs.Feeding.{over-fits}
 
 -- what feeding the input from z into o leaves: f, the store b and the buffer p
@@ -43,6 +44,13 @@ fed-leaves input o begun e q w k =
       bytes = w ∙ ap (λ (v : Session). over o 0 (fed_bytes v input o)) begun;
       kept = k;
     }
+
+-- and from the fresh state that `start` made, with no links
+pub fed-fresh :
+    (size : ℕ) (b₀ input o : List ℕ) {a : Started} {x : Lists} {d : List ℕ} {f : Fed} {b p : List ℕ} → a ≡ started size → x ≡ no_links → d ≡ zeroed b₀
+    → f ≡ fed (session_of a.state x d no_line) input o → b ≡ (fed_session (session_of a.state x d no_line) input o).store
+    → p ≡ over o 0 (fed_bytes (session_of a.state x d no_line) input o) → length p ≡ length o → Leaves (begin size b₀) input o f b p
+fed-fresh size b₀ input o s n z = fed-leaves input o (same-session no_line (ap (λ (x : Started). x.state) s) n z)
 
 -- what a run says that began so
 abbrev said : Started → State → Lists → ℕ → ℕ → Bool → Ran

@@ -1,11 +1,6 @@
 -- `session::run` meets its contract: the start, the whole input, and its end where all was read. Assumes nothing.
-use mathlib.Core.Path.{◌≡◌, ap}
 use native.Mathlib.Omega.{arith}
-use Rattle.state.specs.declared.Started.{Started}
-use Rattle.session.specs.Session.{session_of, no_line}
-use Rattle.session.specs.Run.{begin}
-use Rattle.session.proofs.SessionLaws.{same-session}
-use Rattle.session.proofs.Running.{Leaves, fed-leaves, end-within, part-read, all_read}
+use Rattle.session.proofs.Running.{fed-fresh, end-within, part-read, all_read}
 use Rattle.session.proofs.run.Goals as goal
 
 pub returns-then-read-input-clause-value : goal.returns-then-read-input-clause-value
@@ -13,10 +8,7 @@ returns-then-read-input-clause-value c =
     let a = c.args in
     let s = c.start-first.ensures in
     let f = c.feed-f in
-    let begun : session_of c.start-first.result.state c.no_links.result c.start-first.new.store no_line ≡ begin a.size a.store.now =
-    same-session no_line (ap (λ (x : Started). x.state) s.value) c.no_links.ensures s.store_after in
-    let left : Leaves (begin a.size a.store.now) a.input.now a.out.now f.result f.new.store f.new.out =
-    fed-leaves a.input.now a.out.now begun f.ensures.value f.ensures.store_after f.ensures.out_after f.auto.out in
+    let left = fed-fresh a.size a.store.now a.input.now a.out.now s.value c.no_links.ensures s.store_after f.ensures.value f.ensures.store_after f.ensures.out_after f.auto.out in
     (part-read a.size a.store.now a.input.now a.out.now s.value left c.if-read-input.true).0
 
 pub returns-then-read-input-clause-store_after : goal.returns-then-read-input-clause-store_after
@@ -24,10 +16,7 @@ returns-then-read-input-clause-store_after c =
     let a = c.args in
     let s = c.start-first.ensures in
     let f = c.feed-f in
-    let begun : session_of c.start-first.result.state c.no_links.result c.start-first.new.store no_line ≡ begin a.size a.store.now =
-    same-session no_line (ap (λ (x : Started). x.state) s.value) c.no_links.ensures s.store_after in
-    let left : Leaves (begin a.size a.store.now) a.input.now a.out.now f.result f.new.store f.new.out =
-    fed-leaves a.input.now a.out.now begun f.ensures.value f.ensures.store_after f.ensures.out_after f.auto.out in
+    let left = fed-fresh a.size a.store.now a.input.now a.out.now s.value c.no_links.ensures s.store_after f.ensures.value f.ensures.store_after f.ensures.out_after f.auto.out in
     (part-read a.size a.store.now a.input.now a.out.now s.value left c.if-read-input.true).1.0
 
 pub returns-then-read-input-clause-out_after : goal.returns-then-read-input-clause-out_after
@@ -35,10 +24,7 @@ returns-then-read-input-clause-out_after c =
     let a = c.args in
     let s = c.start-first.ensures in
     let f = c.feed-f in
-    let begun : session_of c.start-first.result.state c.no_links.result c.start-first.new.store no_line ≡ begin a.size a.store.now =
-    same-session no_line (ap (λ (x : Started). x.state) s.value) c.no_links.ensures s.store_after in
-    let left : Leaves (begin a.size a.store.now) a.input.now a.out.now f.result f.new.store f.new.out =
-    fed-leaves a.input.now a.out.now begun f.ensures.value f.ensures.store_after f.ensures.out_after f.auto.out in
+    let left = fed-fresh a.size a.store.now a.input.now a.out.now s.value c.no_links.ensures s.store_after f.ensures.value f.ensures.store_after f.ensures.out_after f.auto.out in
     (part-read a.size a.store.now a.input.now a.out.now s.value left c.if-read-input.true).1.1
 
 pub overflow_add-result : goal.overflow_add-result
@@ -46,10 +32,7 @@ overflow_add-result c =
     let a = c.args in
     let s = c.start-first.ensures in
     let f = c.feed-f in
-    let begun : session_of c.start-first.result.state c.no_links.result c.start-first.new.store no_line ≡ begin a.size a.store.now =
-    same-session no_line (ap (λ (x : Started). x.state) s.value) c.no_links.ensures s.store_after in
-    let left : Leaves (begin a.size a.store.now) a.input.now a.out.now f.result f.new.store f.new.out =
-    fed-leaves a.input.now a.out.now begun f.ensures.value f.ensures.store_after f.ensures.out_after f.auto.out in
+    let left = fed-fresh a.size a.store.now a.input.now a.out.now s.value c.no_links.ensures s.store_after f.ensures.value f.ensures.store_after f.ensures.out_after f.auto.out in
     let e = c.finish-e.ensures in
     omega (arith, end-within a.size a.store.now a.input.now a.out.now s.value left e.value e.out_after c.finish-e.auto.out, left.kept, c.well_formed)
 
@@ -58,10 +41,7 @@ returns-clause-value c =
     let a = c.args in
     let s = c.start-first.ensures in
     let f = c.feed-f in
-    let begun : session_of c.start-first.result.state c.no_links.result c.start-first.new.store no_line ≡ begin a.size a.store.now =
-    same-session no_line (ap (λ (x : Started). x.state) s.value) c.no_links.ensures s.store_after in
-    let left : Leaves (begin a.size a.store.now) a.input.now a.out.now f.result f.new.store f.new.out =
-    fed-leaves a.input.now a.out.now begun f.ensures.value f.ensures.store_after f.ensures.out_after f.auto.out in
+    let left = fed-fresh a.size a.store.now a.input.now a.out.now s.value c.no_links.ensures s.store_after f.ensures.value f.ensures.store_after f.ensures.out_after f.auto.out in
     let e = c.finish-e.ensures in
     (all_read a.size a.store.now a.input.now a.out.now s.value left c.if-read-input.false e.value e.store_after e.out_after).0
 
@@ -70,10 +50,7 @@ returns-clause-store_after c =
     let a = c.args in
     let s = c.start-first.ensures in
     let f = c.feed-f in
-    let begun : session_of c.start-first.result.state c.no_links.result c.start-first.new.store no_line ≡ begin a.size a.store.now =
-    same-session no_line (ap (λ (x : Started). x.state) s.value) c.no_links.ensures s.store_after in
-    let left : Leaves (begin a.size a.store.now) a.input.now a.out.now f.result f.new.store f.new.out =
-    fed-leaves a.input.now a.out.now begun f.ensures.value f.ensures.store_after f.ensures.out_after f.auto.out in
+    let left = fed-fresh a.size a.store.now a.input.now a.out.now s.value c.no_links.ensures s.store_after f.ensures.value f.ensures.store_after f.ensures.out_after f.auto.out in
     let e = c.finish-e.ensures in
     (all_read a.size a.store.now a.input.now a.out.now s.value left c.if-read-input.false e.value e.store_after e.out_after).1.0
 
@@ -82,9 +59,6 @@ returns-clause-out_after c =
     let a = c.args in
     let s = c.start-first.ensures in
     let f = c.feed-f in
-    let begun : session_of c.start-first.result.state c.no_links.result c.start-first.new.store no_line ≡ begin a.size a.store.now =
-    same-session no_line (ap (λ (x : Started). x.state) s.value) c.no_links.ensures s.store_after in
-    let left : Leaves (begin a.size a.store.now) a.input.now a.out.now f.result f.new.store f.new.out =
-    fed-leaves a.input.now a.out.now begun f.ensures.value f.ensures.store_after f.ensures.out_after f.auto.out in
+    let left = fed-fresh a.size a.store.now a.input.now a.out.now s.value c.no_links.ensures s.store_after f.ensures.value f.ensures.store_after f.ensures.out_after f.auto.out in
     let e = c.finish-e.ensures in
     (all_read a.size a.store.now a.input.now a.out.now s.value left c.if-read-input.false e.value e.store_after e.out_after).1.1
