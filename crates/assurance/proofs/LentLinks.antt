@@ -11,11 +11,10 @@ use lib.Dec.{eqb, ltb, leb}
 use lib.ListN.{length, take, length-take}
 use lib.Seq.{get_or-take}
 use Rattle.numbers.proofs.Bools.{and_both, either, never}
-use Rattle.links.specs.declared.lists.Found.{Found}
-use Rattle.links.specs.declared.lists.Found.TheVariants.{At, Nothing}
+use Rattle.std.specs.Prelude.{Option, Some, None, is_some}
 use Rattle.links.specs.declared.lists.Graph.TheVariants.{OfTag}
 use Rattle.links.specs.Paths.{Link, joins}
-use Rattle.links.specs.Links.{is_link_of, find_from, find_in, is_found, stands, appended, removed}
+use Rattle.links.specs.Links.{is_link_of, find_from, find_in, stands, appended, removed}
 use Rattle.links.proofs.LinkLaws.{Names, test-names, number-joins, said}
 use Rattle.links.proofs.ListLaws.{appended-joins, appended-other, removed-joins, removed-other}
 use Rattle.link_rules.specs.LinkRules.{at}
@@ -28,7 +27,7 @@ use Rattle.assurance.proofs.LeafLists.{Same, same_then, given_both, withdrawn-bo
 -- ---- where a number is found
 
 -- the place of what is found, counted from k
-found_at : (k : ℕ) (ys : List ℕ) (x i : ℕ) → find_from k ys x ≡ At i → (j : ℕ) × (i ≡ k + j) × (j < length ys) × (at ys j ≡ x)
+found_at : (k : ℕ) (ys : List ℕ) (x i : ℕ) → find_from k ys x ≡ Some i → (j : ℕ) × (i ≡ k + j) × (j < length ys) × (at ys j ≡ x)
 unfolding find_from
 found_at k [] x i e = absurd (let z : ◌≡◌ {A = ℕ} 0 1 = cc in omega arith)
 found_at k (y ∷ ys) x i e =
@@ -38,9 +37,9 @@ found_at k (y ∷ ys) x i e =
     (either (eqb y x))
 
 -- what is found has a place
-found_some : (f : Found) → is_found f ≡ true → (i : ℕ) × (f ≡ At i)
-found_some (At i) e = (i, refl)
-found_some Nothing e = absurd (never e refl)
+found_some : (f : Option ℕ) → is_some f ≡ true → (i : ℕ) × (f ≡ Some i)
+found_some (Some i) e = (i, refl)
+found_some None e = absurd (never e refl)
 
 -- ---- the links of a tag in a lent list, of which n places are in use, and the number of the link from p to q of tag t
 
@@ -88,7 +87,7 @@ module _ (l : List ℕ) (n t p q : ℕ) (near : p < 64) (far : q < 64) where
       (subst (λ (y : ℕ). Names (t * 256) y p q) (sym (get_or-take n l i 0 low ∙ e)) names)
 
   -- where it is found
-  found-place : (i : ℕ) → find_in (take n l) x ≡ At i → (i < n) × (i < length l) × (at l i ≡ x)
+  found-place : (i : ℕ) → find_in (take n l) x ≡ Some i → (i < n) × (i < length l) × (at l i ≡ x)
   found-place i e =
       let w = found_at 0 (take n l) x i e in
       let same : i ≡ w.0 = omega (arith, w.1) in
@@ -103,10 +102,10 @@ module _ (l : List ℕ) (n t p q : ℕ) (near : p < 64) (far : q < 64) where
       place-linked f.0 w.0 w.1 w.2
 
   -- it does not: it is none
-  not-standing : n ≤ length l → find_in (take n l) x ≡ Nothing → joins (of_tag l n t) p q ≡ false
+  not-standing : n ≤ length l → find_in (take n l) x ≡ None → joins (of_tag l n t) p q ≡ false
   not-standing fits e =
       ⊎_elim
-      (λ h. let w = linked-at l n t p q h in absurd (stands-nowhere l n x fits (ap is_found e) w.0 w.1 (parts-number (at l w.0) w.2)))
+      (λ h. let w = linked-at l n t p q h in absurd (stands-nowhere l n x fits (ap is_some e) w.0 w.1 (parts-number (at l w.0) w.2)))
       (λ h. h)
       (either (joins (of_tag l n t) p q))
 
@@ -126,7 +125,7 @@ module _ (l : List ℕ) (n t p q : ℕ) (near : p < 64) (far : q < 64) where
 
   -- ---- it is removed
 
-  module _ {tags principals : ℕ} (holds : LinksHold l n tags principals) (i : ℕ) (found : find_in (take n l) x ≡ At i) where
+  module _ {tags principals : ℕ} (holds : LinksHold l n tags principals) (i : ℕ) (found : find_in (take n l) x ≡ Some i) where
     abbrev less : List ℕ
     less = removed l n i
 
@@ -181,12 +180,12 @@ module _ (l : List ℕ) (n t p q : ℕ) (near : p < 64) (far : q < 64) where
     leaf-given room = same_then (given_both p q same) (appended-own room)
 
     -- a leave withdrawn that was not there
-    pub leaf-lacked : n ≤ length l → find_in (take n l) x ≡ Nothing → Same (withdrawn ks p q) (of_tag l n t)
+    pub leaf-lacked : n ≤ length l → find_in (take n l) x ≡ None → Same (withdrawn ks p q) (of_tag l n t)
     leaf-lacked fits e = same_then (withdrawn-both p q same) (withdrawn-none (of_tag l n t) p q (not-standing fits e))
 
     -- one that was
     pub leaf-taken :
-        {tags principals : ℕ} → LinksHold l n tags principals → (i : ℕ) → find_in (take n l) x ≡ At i →
+        {tags principals : ℕ} → LinksHold l n tags principals → (i : ℕ) → find_in (take n l) x ≡ Some i →
         Same (withdrawn ks p q) (of_tag (removed l n i) (n - 1) t)
     leaf-taken holds i e =
         same_then (withdrawn-both p q (same_then same (removed-own holds i e))) (withdrawn-one (of_tag (removed l n i) (n - 1) t) p q (gone holds i e))

@@ -11,8 +11,7 @@ use Rattle.numbers.specs.declared.Principal.{Principal}
 use Rattle.numbers.specs.declared.Tag.{Tag}
 use Rattle.numbers.specs.Numbers.{most_principals, most_tags, link_places}
 use Rattle.numbers.proofs.Bools.{and_left, and_right, by-test}
-use Rattle.links.specs.declared.lists.Found.{Found}
-use Rattle.links.specs.declared.lists.Found.TheVariants.{At, Nothing}
+use Rattle.std.specs.Prelude.{Option, Some, None}
 use Rattle.links.specs.declared.lists.Graph.TheVariants.{Principals, OfTag}
 use Rattle.links.specs.Links.{links_in, link_number, find_in, stands}
 use Rattle.links.specs.Authority.{acts_for}
@@ -33,12 +32,12 @@ use Rattle.decide_authority.specs.Authority.{is_public, removal, told_bool, call
 
 -- a removal is of what was found, if anything was
 by-found :
-    (P : ListChange → Type 0) (f : Found) →
-    ((i : ℕ) → f ≡ At i → P (list.Remove i)) →
-    (f ≡ Nothing → P list.Keep) →
+    (P : ListChange → Type 0) (f : Option ℕ) →
+    ((i : ℕ) → f ≡ Some i → P (list.Remove i)) →
+    (f ≡ None → P list.Keep) →
     P (removal f)
-by-found P (At i) there gone = there i refl
-by-found P Nothing there gone = gone refl
+by-found P (Some i) there gone = there i refl
+by-found P None there gone = gone refl
 
 module _ (s : Sight) (l g : List ℕ) (allowed : Bool) where
   pub data AuthorityComes : AuthorityRequest → Outcome → Type 0 where
@@ -54,10 +53,10 @@ module _ (s : Sight) (l g : List ℕ) (allowed : Bool) where
         closes_cycle (links_in l s.links Principals) p q ≡ false →
         s.links < link_places →
         AuthorityComes (Delegate p q) (links_changed (list.Append (link_number 0 p q)))
-    has-no-link : {p q : Principal} → find_in (take s.links l) (link_number 0 p q) ≡ Nothing → AuthorityComes (Revoke p q) done
+    has-no-link : {p q : Principal} → find_in (take s.links l) (link_number 0 p q) ≡ None → AuthorityComes (Revoke p q) done
     takes-link :
         {p q : Principal} (i : ℕ) →
-        find_in (take s.links l) (link_number 0 p q) ≡ At i →
+        find_in (take s.links l) (link_number 0 p q) ≡ Some i →
         AuthorityComes (Revoke p q) (links_changed (list.Remove i))
     tells-acts-for : {p q : Principal} (b : Bool) → AuthorityComes (ActsFor p q) (told_bool b)
     makes-tag : is_public (caller s) ≡ false → s.tags < most_tags → AuthorityComes NewTag (tag_added s Supertag)
@@ -80,10 +79,10 @@ module _ (s : Sight) (l g : List ℕ) (allowed : Bool) where
         closes_cycle (links_in g s.grants (OfTag t)) p q ≡ false →
         s.grants < link_places →
         AuthorityComes (Grant t p q) (grants_changed (list.Append (link_number (t.0 * 256) p q)))
-    has-no-grant : {t : Tag} {p q : Principal} → find_in (take s.grants g) (link_number (t.0 * 256) p q) ≡ Nothing → AuthorityComes (Ungrant t p q) done
+    has-no-grant : {t : Tag} {p q : Principal} → find_in (take s.grants g) (link_number (t.0 * 256) p q) ≡ None → AuthorityComes (Ungrant t p q) done
     takes-grant :
         {t : Tag} {p q : Principal} (i : ℕ) →
-        find_in (take s.grants g) (link_number (t.0 * 256) p q) ≡ At i →
+        find_in (take s.grants g) (link_number (t.0 * 256) p q) ≡ Some i →
         AuthorityComes (Ungrant t p q) (grants_changed (list.Remove i))
     tells : {t : Tag} → AuthorityComes (Authoritative t) (told_bool allowed)
 

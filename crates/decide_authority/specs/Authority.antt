@@ -4,8 +4,7 @@ use Rattle.std.specs.Prelude.{Bool, not, cond, List, ℕ, ◌*◌, eqb, leb, tak
 use Rattle.numbers.specs.declared.Principal.{Principal}
 use Rattle.numbers.specs.declared.Tag.{Tag}
 use Rattle.numbers.specs.Numbers.{public, most_principals, most_tags, link_places}
-use Rattle.links.specs.declared.lists.Found.{Found}
-use Rattle.links.specs.declared.lists.Found.TheVariants.{At, Nothing}
+use Rattle.std.specs.Prelude.{Option, Some, None}
 use Rattle.links.specs.declared.lists.Graph.TheVariants.{Principals, OfTag}
 use Rattle.links.specs.declared.authority.Rooted.{Rooted}
 use Rattle.links.specs.declared.authority.Lineage.{Lineage}
@@ -37,9 +36,9 @@ own_of (lineage.Supertag t) = t
 own_of (lineage.Subtag t above) = t
 
 -- "link removed", or none there: "done, no change"
-abbrev pub removal : Found → ListChange
-removal (At i) = list.Remove i
-removal Nothing = list.Keep
+abbrev pub removal : Option ℕ → ListChange
+removal (Some i) = list.Remove i
+removal None = list.Keep
 
 -- "01 .. else 00"
 abbrev pub told_bool : Bool → Outcome

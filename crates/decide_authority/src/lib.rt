@@ -24,7 +24,7 @@ ghost use Rattle.decide_authority.specs.Authority.{
 
 use answers::{Answer, Refusal};
 use frames::requests::AuthorityRequest;
-use links::{Found, Graph, Lineage, Rooted};
+use links::{Graph, Lineage, Rooted};
 use numbers::{LINKS, PRINCIPALS, PUBLIC, Principal, TAGS, Tag};
 use outcomes::{
     ListChange, Outcome, RowChange, StoreChange, done, grants_changed, links_changed, refused,
@@ -125,12 +125,12 @@ fn decide_delegate(s: Sight, links: &[u32], p: Principal, q: Principal) -> Outco
 }
 
 // "link removed", or none there
-fn removal(place: Found) -> ListChange
+fn removal(place: Option<usize>) -> ListChange
     ensures { result ≡ removal place }
 {
     match place {
-        Found::At(i) => ListChange::Remove(i),
-        Found::Nothing => ListChange::Keep,
+        Some(i) => ListChange::Remove(i),
+        None => ListChange::Keep,
     }
 }
 

@@ -16,11 +16,11 @@ use Rattle.numbers.specs.declared.Tag.{Tag}
 use Rattle.numbers.specs.Numbers.{public, link_places}
 use Rattle.numbers.proofs.Bools.{either, never, by-test}
 use Rattle.numbers.proofs.Says.{ltb-is, and_is}
-use Rattle.links.specs.declared.lists.Found.{Found}
+use Rattle.std.specs.Prelude.{Option, is_some}
 use Rattle.links.specs.declared.lists.Graph.{Graph}
 use Rattle.links.specs.declared.lists.Graph.TheVariants.{Principals, OfTag}
 use Rattle.links.specs.Paths.{Link, joins, Path}
-use Rattle.links.specs.Links.{is_link_of, base_of, links_in, link_number, find_from, is_found, stands, appended, removed, gap_closed}
+use Rattle.links.specs.Links.{is_link_of, base_of, links_in, link_number, find_from, stands, appended, removed, gap_closed}
 use Rattle.links.specs.Cycles.{NoCycle, closes_cycle}
 use Rattle.links.proofs.PathLaws.{Among, joins-tail, path-unlinked, leads-is}
 use Rattle.links.proofs.LinkLaws.{Names, test-names, joins-number, said}
@@ -254,12 +254,12 @@ links-more {l} {n} {tags} {principals} {tags2} {principals2} h more low more-pri
 -- ---- what the tests have shown
 
 -- what is found at a place is found
-found-there : (k : ℕ) (ys : List ℕ) (x i : ℕ) → i < length ys → at ys i ≡ x → is_found (find_from k ys x) ≡ true
+found-there : (k : ℕ) (ys : List ℕ) (x i : ℕ) → i < length ys → at ys i ≡ x → is_some (find_from k ys x) ≡ true
 unfolding find_from
 found-there k [] x i h e = absurd (not-suc-le-zero h)
 found-there k (y ∷ ys) x zero h e = rw (eq-eqb y x e)
 found-there k (y ∷ ys) x (suc i) h e =
-    by-test (λ (f : Found). is_found f ≡ true) (eqb y x) (λ t. refl) (λ t. found-there (suc k) ys x i (le_of_suc-le-suc h) e)
+    by-test (λ (f : Option ℕ). is_some f ≡ true) (eqb y x) (λ t. refl) (λ t. found-there (suc k) ys x i (le_of_suc-le-suc h) e)
 
 -- so what does not stand in the list is at no place in use
 pub stands-nowhere : (l : List ℕ) (n x : ℕ) → n ≤ length l → stands l n x ≡ false → (i : ℕ) → i < n → at l i ≡ x → ⊥

@@ -7,7 +7,7 @@ use Prim.Native.Nat.{ℕ}
 use lib.ListN.{take, replicate}
 use Rattle.numbers.specs.declared.Principal.{Principal}
 use Rattle.numbers.specs.Below.{any_below}
-use Rattle.links.specs.declared.lists.Found.TheVariants.{At, Nothing}
+use Rattle.std.specs.Prelude.{Some, None}
 use Rattle.links.specs.declared.authority.Rooted.{Rooted}
 use Rattle.links.specs.declared.authority.Lineage.TheVariants.{Supertag, Subtag}
 use Rattle.links.specs.Paths.{leads}
@@ -34,11 +34,11 @@ link p q = link_number 0 (record { 0 = p }) (record { 0 = q })
 once : List ℕ
 once = appended (replicate 256 0) 0 (link 1 2)
 
-case-3 : find_in (take 1 once) (link 1 2) ≡ At 0
+case-3 : find_in (take 1 once) (link 1 2) ≡ Some 0
 unfolding once link find_from
 case-3 = refl
 
-case-5 : find_in (take 1 once) (link 2 1) ≡ Nothing
+case-5 : find_in (take 1 once) (link 2 1) ≡ None
 unfolding once link find_from
 case-5 = refl
 

@@ -1,19 +1,21 @@
 -- A list of numbers and the links in it: a link stands in `links_from base xs` exactly where one of the numbers says so. Assumes nothing.
 use mathlib.Core.Path.{◌≡◌, refl, sym, ap, ap₂, subst, ◌∙◌}
-use mathlib.Core.Bool.{Bool, true, false, cond, ◌&&◌}
+use mathlib.Core.Bool.{true, false, cond, ◌&&◌}
 use mathlib.Core.List.{List, [], ◌∷◌}
 use mathlib.Core.Logic.{⊎_elim}
 use Prim.Native.Nat.{ℕ, zero, suc, ◌+◌, ◌-◌, ◌/◌, ◌%◌, ◌^◌, ◌≤◌, ◌<◌, min}
 use native.Mathlib.Nat.{le_of_suc-le-suc, not-suc-le-zero}
 use native.Mathlib.Numerals.{add-one}
 use native.Mathlib.Omega.{arith}
-use borrow.Author.Tests.{eq-eqb, ne_eqb, leb-true, leb-false, ltb-true, le-leb, lt-ltb}
+use borrow.Author.Tests.{leb-true, leb-false, ltb-true, le-leb, lt-ltb}
 use lib.Dec.{eqb, ltb, leb}
 use lib.ListN.{length, get_or, take, drop, length-take, drop_of_length-le}
-use lib.Seq.{take_all, take-length, drop-cons, get_or-take}
+use lib.Seq.{take_all, take-length}
 use Rattle.numbers.proofs.Bools.{and_left, and_right, and_both, either, never}
 use Rattle.links.specs.Paths.{Link, joins}
-use Rattle.links.specs.declared.lists.Found.TheVariants.{At, Nothing}
+use Rattle.std.specs.List.{position, position_from}
+use Rattle.std.proofs.lemmas.Iterator.Adapters.{position_from-zero}
+use Rattle.std.specs.Prelude.{Some}
 use Rattle.links.specs.declared.lists.Graph.{Graph}
 use Rattle.links.specs.declared.lists.Graph.TheVariants.{Principals, OfTag}
 use Rattle.links.specs.Links.{is_link_of, links_from, base_of, links_in, find_from, find_in}
@@ -120,31 +122,19 @@ room (OfTag t) h = omega arith
 pub base-room : (g : Graph) (base : ℕ) → base ≡ base_of g → base < 2 ^ 32 → base + 64 < 4294967296
 base-room g base e h = subst (λ (b : ℕ). b + 64 < 4294967296) (sym e) (room g (subst (λ (b : ℕ). b < 2 ^ 32) e h))
 
--- ---- a search, place by place
+-- ---- a search
 
-module _ (l : List ℕ) (n x i : ℕ) where
-  ahead : i < min n (length l) → drop i (take n l) ≡ get_or l i 0 ∷ drop (suc i) (take n l)
-  ahead h =
-      let there : i < length (take n l) = omega (arith, length-take n l) in
-      drop-cons (take n l) i 0 there ∙ ap (λ (y : ℕ). y ∷ drop (suc i) (take n l)) (get_or-take n l i 0 (omega arith))
+from_position : (i : ℕ) (ys : List ℕ) (x : ℕ) → find_from i ys x ≡ position_from (λ y. eqb y x) i ys
+unfolding find_from
+from_position i [] x = refl
+from_position i (y ∷ ys) x = ap (cond (eqb y x) (Some i)) (from_position (suc i) ys x ∙ ap (λ (j : ℕ). position_from (λ z. eqb z x) j ys) (sym (add-one i)))
 
-  pub find-hit : i < min n (length l) → get_or l i 0 ≡ x → find_from i (drop i (take n l)) x ≡ At i
-  unfolding find_from
-  find-hit h e = ap (λ (xs : List ℕ). find_from i xs x) (ahead h) ∙ ap (λ (b : Bool). cond b (At i) (find_from (suc i) (drop (suc i) (take n l)) x)) (eq-eqb (get_or l i 0) x e)
-
-  pub find_past : i < min n (length l) → (get_or l i 0 ≡ x → ⊥) → find_from i (drop i (take n l)) x ≡ find_from (i + 1) (drop (i + 1) (take n l)) x
-  unfolding find_from
-  find_past h e =
-      ap (λ (xs : List ℕ). find_from i xs x) (ahead h)
-      ∙ ap (λ (b : Bool). cond b (At i) (find_from (suc i) (drop (suc i) (take n l)) x)) (ne_eqb (get_or l i 0) x e)
-      ∙ ap (λ (j : ℕ). find_from j (drop j (take n l)) x) (sym (add-one i))
-
-  pub find-end : min n (length l) ≤ i → find_from i (drop i (take n l)) x ≡ Nothing
-  unfolding find_from
-  find-end h = ap (λ (xs : List ℕ). find_from i xs x) (drop_of_length-le (take n l) {i = i} (omega (arith, length-take n l)))
+-- it is std's
+pub found_position : (ys : List ℕ) (x : ℕ) → position (λ y. eqb y x) ys ≡ find_in ys x
+found_position ys x = position_from-zero (λ y. eqb y x) ys ∙ sym (from_position 0 ys x)
 
 -- what is found is among the places searched
-found_among : (i : ℕ) (ys : List ℕ) (x j : ℕ) → find_from i ys x ≡ At j → j < i + length ys
+found_among : (i : ℕ) (ys : List ℕ) (x j : ℕ) → find_from i ys x ≡ Some j → j < i + length ys
 unfolding find_from
 found_among i [] x j e = absurd (let z : ◌≡◌ {A = ℕ} 0 1 = cc in omega arith)
 found_among i (y ∷ ys) x j e =
@@ -154,5 +144,5 @@ found_among i (y ∷ ys) x j e =
     (either (eqb y x))
 
 -- so it is at one of the places in use
-pub found-used : (l : List ℕ) (n x i : ℕ) → find_in (take n l) x ≡ At i → i < n
+pub found-used : (l : List ℕ) (n x i : ℕ) → find_in (take n l) x ≡ Some i → i < n
 found-used l n x i e = omega (arith, found_among 0 (take n l) x i e, length-take n l)

@@ -1,10 +1,9 @@
 -- The lent lists (01, "Things and numbers"): "Principal links (from, to) and tag links (tag, from, to): a list of link records that
 -- the caller lends .. in order of acceptance". Here a record is one number: P * 256 + Q for a principal link (P, Q), and
 -- (T * 256 + P) * 256 + Q for a link (T, P, Q) of a tag. Assumes nothing.
-use Rattle.std.specs.Prelude.{Bool, true, false, cond, ◌&&◌, List, [], ◌∷◌, ◌++◌, ℕ, suc, ◌+◌, ◌-◌, ◌*◌, ◌/◌, ◌%◌, min, eqb, ltb, leb, length, take, drop, set}
+use Rattle.std.specs.Prelude.{Bool, cond, ◌&&◌, List, [], ◌∷◌, ◌++◌, ℕ, suc, ◌+◌, ◌-◌, ◌*◌, ◌/◌, ◌%◌, min, eqb, ltb, leb, length, take, drop, set}
 use Rattle.numbers.specs.declared.Principal.{Principal}
-use Rattle.links.specs.declared.lists.Found.{Found}
-use Rattle.links.specs.declared.lists.Found.TheVariants.{At, Nothing}
+use Rattle.std.specs.Prelude.{Option, Some, None, is_some}
 use Rattle.links.specs.declared.lists.Graph.{Graph}
 use Rattle.links.specs.declared.lists.Graph.TheVariants.{Principals, OfTag}
 use Rattle.links.specs.Paths.{Link}
@@ -33,21 +32,17 @@ abbrev pub link_number : ℕ → Principal → Principal → ℕ
 link_number base p q = (base + p.0) * 256 + q.0
 
 -- the first place of x, counted from i
-unfoldable pub find_from : ℕ → List ℕ → ℕ → Found
-find_from i [] x = Nothing
-find_from i (y ∷ ys) x = cond (eqb y x) (At i) (find_from (suc i) ys x)
+unfoldable pub find_from : ℕ → List ℕ → ℕ → Option ℕ
+find_from i [] x = None
+find_from i (y ∷ ys) x = cond (eqb y x) (Some i) (find_from (suc i) ys x)
 
 -- the first place of x
-abbrev pub find_in : List ℕ → ℕ → Found
+abbrev pub find_in : List ℕ → ℕ → Option ℕ
 find_in ys x = find_from 0 ys x
-
-abbrev pub is_found : Found → Bool
-is_found (At i) = true
-is_found Nothing = false
 
 -- x stands among the first n places
 abbrev pub stands : List ℕ → ℕ → ℕ → Bool
-stands l n x = is_found (find_in (take n l) x)
+stands l n x = is_some (find_in (take n l) x)
 
 -- "in order of acceptance": x at place n, where there is one
 abbrev pub appended : {A : Type 0} → List A → ℕ → A → List A

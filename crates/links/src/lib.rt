@@ -12,5 +12,5 @@ mod walk;
 
 pub use authority::{Lineage, Rooted, acts_for, authoritative, counted_node};
 pub use cycles::closes_cycle;
-pub use lists::{Found, Graph, find, is_found, principal_link, stands, tag_link, used};
+pub use lists::{Graph, find, principal_link, stands, tag_link, used};
 pub use walk::leads;

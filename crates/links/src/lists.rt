@@ -1,7 +1,7 @@
 // The lent lists. A principal link (P, Q) is the number P * 256 + Q, and a link (T, P, Q) of a tag is
 // (T * 256 + P) * 256 + Q.
 ghost use Rattle.std.specs.Prelude.{◌≡◌, ◌*◌, min, take};
-ghost use Rattle.links.specs.Links.{base_of, link_number, find_in, is_found, stands};
+ghost use Rattle.links.specs.Links.{base_of, link_number, find_in, stands};
 
 use numbers::{Principal, Tag};
 
@@ -27,14 +27,7 @@ pub fn base_of(g: Graph) -> u32
 pub fn used(places: usize, count: usize) -> usize
     ensures { result ≡ min count places }
 {
-    if count < places { count } else { places }
-}
-
-// Where a link stands in a list.
-#[derive(Clone, Copy)]
-pub enum Found {
-    At(usize),
-    Nothing,
+    count.min(places)
 }
 
 // The number of a principal link.
@@ -52,32 +45,15 @@ pub fn tag_link(t: Tag, p: Principal, q: Principal) -> u32
 }
 
 // Where a link stands among the first n places.
-pub fn find(links: &[u32], n: usize, x: u32) -> Found
+pub fn find(links: &[u32], n: usize, x: u32) -> Option<usize>
     ensures { result ≡ find_in (take n links.now) x }
 {
-    let end = used(links.len(), n);
-    let mut i = 0;
-    while i < end {
-        if links[i] == x {
-            return Found::At(i);
-        }
-        i += 1;
-    }
-    Found::Nothing
-}
-
-pub fn is_found(f: Found) -> bool
-    ensures { result ≡ is_found f }
-{
-    match f {
-        Found::At(_) => true,
-        Found::Nothing => false,
-    }
+    links.iter().take(n).position(|l| *l == x)
 }
 
 // Whether it stands among them.
 pub fn stands(links: &[u32], n: usize, x: u32) -> bool
     ensures { result ≡ stands links.now n x }
 {
-    is_found(find(links, n, x))
+    find(links, n, x).is_some()
 }

@@ -11,8 +11,7 @@ use lib.ListN.{length, length-take}
 use Rattle.numbers.specs.Numbers.{one_more}
 use Rattle.numbers.proofs.Bools.{either}
 use Rattle.numbers.proofs.Chain.{skip, hit}
-use Rattle.links.specs.declared.lists.Found.{Found}
-use Rattle.links.specs.declared.lists.Found.TheVariants.{At, Nothing}
+use Rattle.std.specs.Prelude.{Option, Some, None}
 use Rattle.links.specs.Links.{find_in}
 use Rattle.memory.specs.declared.Memory.{Memory}
 use Rattle.memory.specs.declared.Note.{Note}
@@ -37,13 +36,13 @@ module _ (m : Memory) (x : ℕ) (w : Fits m) (long : length m.pairs ≡ 64) wher
   from_place held hits k h = ap (λ (p : List ℕ). record { size = m.size; held = held; pairs = p; questions = one_more m.questions; hits = hits }) (renewed-front k x m.pairs h)
 
   -- it is held at k
-  held_at : (k : ℕ) → find_in (held_pairs m) x ≡ At k → (k < 64) × (noted m (counting (tally_of m) m.held (one_more m.hits) k x) ≡ remembered (counted m true) x)
+  held_at : (k : ℕ) → find_in (held_pairs m) x ≡ Some k → (k < 64) × (noted m (counting (tally_of m) m.held (one_more m.hits) k x) ≡ remembered (counted m true) x)
   held_at k e =
       let inside : k < 64 = omega (arith, (found_at (held_pairs m) x k e).0, length-take m.held m.pairs) in
       (inside, from_place m.held (one_more m.hits) k inside ∙ moved (counted m true) x w.within room k e)
 
   -- it is not held
-  module _ (none : find_in (held_pairs m) x ≡ Nothing) where
+  module _ (none : find_in (held_pairs m) x ≡ None) where
     not-held : noted m (brought (tally_of m) 64 x) ≡ remembered (counted m false) x
     unfolding renewed
     not-held =
@@ -70,10 +69,10 @@ module _ (m : Memory) (x : ℕ) (w : Fits m) (long : length m.pairs ≡ 64) wher
   unfolding renewed
   judged-is walk = ends (find_in (held_pairs m) x) refl walk
     where
-      ends : (f : Found) → find_in (held_pairs m) x ≡ f → (b : Bool) → Same (place_of f) b
-      ends (At k) e b = let h = held_at k e in rw (e, lt-ltb k 64 h.0) (refl, h.1)
-      ends Nothing e true = rw e (refl, not-held e)
-      ends Nothing e false = rw e (refl, refl)
+      ends : (f : Option ℕ) → find_in (held_pairs m) x ≡ f → (b : Bool) → Same (place_of f) b
+      ends (Some k) e b = let h = held_at k e in rw (e, lt-ltb k 64 h.0) (refl, h.1)
+      ends None e true = rw e (refl, not-held e)
+      ends None e false = rw e (refl, refl)
 
 -- where nothing is to be written, the memory stays
 pub stays : (m : Memory) → noted m (as_is (tally_of m)) ≡ m

@@ -12,7 +12,7 @@ use lib.Dec.{eqb}
 use lib.ListN.{length, take, drop, length-append, length-drop, take-append-drop}
 use lib.Seq.{length-take-le, take_all, take-take, drop-append-le}
 use Rattle.numbers.proofs.Bools.{either}
-use Rattle.links.specs.declared.lists.Found.TheVariants.{At, Nothing}
+use Rattle.std.specs.Prelude.{Some, None}
 use Rattle.links.specs.Links.{find_from, find_in}
 use Rattle.memory.specs.declared.Memory.{Memory}
 use Rattle.memory.specs.Remembered.{held_pairs, without, remembered, slid}
@@ -25,17 +25,17 @@ record Place (i : ℕ) (l : List ℕ) (x k : ℕ) : Type 0 where
   in_list : back < length l
   rest : without x l ≡ take back l ++ drop (suc back) l
 
-found_from : (i : ℕ) (l : List ℕ) (x k : ℕ) → find_from i l x ≡ At k → Place i l x k
+found_from : (i : ℕ) (l : List ℕ) (x k : ℕ) → find_from i l x ≡ Some k → Place i l x k
 unfolding find_from without
 found_from i [] x k e = absurd (let z : ◌≡◌ {A = ℕ} 0 1 = cc in omega arith)
 found_from i (y ∷ l) x k e =
     ⊎_elim
     (λ t.
-    let here : At i ≡ At k = sym (ap (λ (b : Bool). cond b (At i) (find_from (suc i) l x)) t) ∙ e in
+    let here : Some i ≡ Some k = sym (ap (λ (b : Bool). cond b (Some i) (find_from (suc i) l x)) t) ∙ e in
     let place : i ≡ k = cc in
     record { back = 0; at = sym place ∙ sym (add-zero i); in_list = omega arith; rest = ap (λ (b : Bool). cond b l (y ∷ without x l)) t })
     (λ t.
-    let w = found_from (suc i) l x k (sym (ap (λ (b : Bool). cond b (At i) (find_from (suc i) l x)) t) ∙ e) in
+    let w = found_from (suc i) l x k (sym (ap (λ (b : Bool). cond b (Some i) (find_from (suc i) l x)) t) ∙ e) in
     record {
       back = suc w.back;
       at = w.at ∙ suc-add i w.back ∙ sym (add-suc i w.back);
@@ -45,21 +45,21 @@ found_from i (y ∷ l) x k e =
     (either (eqb y x))
 
 -- x stands at k of l, and the rest is what stands before and after it
-pub found_at : (l : List ℕ) (x k : ℕ) → find_in l x ≡ At k → (k < length l) × (without x l ≡ take k l ++ drop (suc k) l)
+pub found_at : (l : List ℕ) (x k : ℕ) → find_in l x ≡ Some k → (k < length l) × (without x l ≡ take k l ++ drop (suc k) l)
 found_at l x k e =
     let w = found_from 0 l x k e in
     let same : w.back ≡ k = sym (w.at ∙ zero-add w.back) in
     (subst (λ (j : ℕ). j < length l) same w.in_list, subst (λ (j : ℕ). without x l ≡ take j l ++ drop (suc j) l) same w.rest)
 
-found_none : (i : ℕ) (l : List ℕ) (x : ℕ) → find_from i l x ≡ Nothing → without x l ≡ l
+found_none : (i : ℕ) (l : List ℕ) (x : ℕ) → find_from i l x ≡ None → without x l ≡ l
 unfolding find_from without
 found_none i [] x e = refl
 found_none i (y ∷ l) x e =
     ⊎_elim
-    (λ t. let clash : At i ≡ Nothing = sym (ap (λ (b : Bool). cond b (At i) (find_from (suc i) l x)) t) ∙ e in absurd (let z : ◌≡◌ {A = ℕ} 0 1 = cc in omega arith))
+    (λ t. let clash : Some i ≡ None = sym (ap (λ (b : Bool). cond b (Some i) (find_from (suc i) l x)) t) ∙ e in absurd (let z : ◌≡◌ {A = ℕ} 0 1 = cc in omega arith))
     (λ t.
     ap (λ (b : Bool). cond b l (y ∷ without x l)) t
-    ∙ ap (λ (r : List ℕ). y ∷ r) (found_none (suc i) l x (sym (ap (λ (b : Bool). cond b (At i) (find_from (suc i) l x)) t) ∙ e)))
+    ∙ ap (λ (r : List ℕ). y ∷ r) (found_none (suc i) l x (sym (ap (λ (b : Bool). cond b (Some i) (find_from (suc i) l x)) t) ∙ e)))
     (either (eqb y x))
 
 -- ---- the four cases
@@ -82,7 +82,7 @@ module _ (m : Memory) (x : ℕ) (within : m.held ≤ m.size) (fits : m.size ≤ 
   front l p n w e f = rw (w, e, f)
 
   -- x was held at k
-  pub moved : (k : ℕ) → find_in held x ≡ At k → with_front m m.held k x ≡ remembered m x
+  pub moved : (k : ℕ) → find_in held x ≡ Some k → with_front m m.held k x ≡ remembered m x
   moved k e =
       let place = found_at held x k e in
       let l = x ∷ (take k held ++ drop (suc k) held) in
@@ -98,7 +98,7 @@ module _ (m : Memory) (x : ℕ) (within : m.held ≤ m.size) (fits : m.size ≤ 
       (ap (drop (suc k)) (sym (take-append-drop m.held m.pairs)) ∙ drop-append-le (suc k) held (drop m.held m.pairs) (omega (arith, place.0)))
       ∙ sym (append_assoc (take k held) (drop (suc k) held) (drop m.held m.pairs))))
 
-  module _ (none : find_in held x ≡ Nothing) where
+  module _ (none : find_in held x ≡ None) where
     -- there is room
     pub added : m.held < m.size → with_front m (m.held + 1) m.held x ≡ remembered m x
     added h =

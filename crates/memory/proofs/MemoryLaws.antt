@@ -11,20 +11,20 @@ use lib.Dec.{eqb}
 use lib.ListN.{length, take, drop, length-take}
 use lib.Seq.{take-append_seam}
 use Rattle.numbers.proofs.Bools.{and_left, and_right, and_both, or_left, or_right, or-either, either, never}
-use Rattle.links.specs.declared.lists.Found.TheVariants.{At}
-use Rattle.links.specs.Links.{find_from, find_in, is_found}
+use Rattle.std.specs.Prelude.{Some, is_some}
+use Rattle.links.specs.Links.{find_from, find_in}
 use Rattle.memory.specs.declared.Memory.{Memory}
 use Rattle.memory.specs.Remembered.{Fits, held_pairs, holds, without, holding, remembered, emptied, counted, answered}
 use Rattle.memory.specs.Truth.{among, distinct, Truthful}
 
 -- ---- which pairs are held
 
-found_among : (i : ℕ) (l : List ℕ) (x : ℕ) → is_found (find_from i l x) ≡ among l x
+found_among : (i : ℕ) (l : List ℕ) (x : ℕ) → is_some (find_from i l x) ≡ among l x
 unfolding find_from among
 found_among i [] x = refl
 found_among i (y ∷ l) x = pick (eqb y x) (found_among (suc i) l x)
   where
-    pick : (b : Bool) → is_found (find_from (suc i) l x) ≡ among l x → is_found (cond b (At i) (find_from (suc i) l x)) ≡ (b || among l x)
+    pick : (b : Bool) → is_some (find_from (suc i) l x) ≡ among l x → is_some (cond b (Some i) (find_from (suc i) l x)) ≡ (b || among l x)
     pick true ih = refl
     pick false ih = ih
 
@@ -105,7 +105,7 @@ pub none-held : (m : Memory) → Fits m → m.size ≡ 0 → (x : ℕ) → holds
 unfolding find_from
 none-held m w e x =
     let empty : m.held ≡ 0 = omega (arith, w.within) in
-    ap (λ (n : ℕ). is_found (find_in (take n m.pairs) x)) empty
+    ap (λ (n : ℕ). is_some (find_in (take n m.pairs) x)) empty
 
 -- ---- truth
 

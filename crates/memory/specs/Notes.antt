@@ -2,8 +2,7 @@
 -- write. Assumes nothing.
 use Rattle.std.specs.Prelude.{Bool, true, false, cond, List, ℕ, ◌+◌, ◌-◌, ltb, replicate}
 use Rattle.numbers.specs.Numbers.{one_more}
-use Rattle.links.specs.declared.lists.Found.{Found}
-use Rattle.links.specs.declared.lists.Found.TheVariants.{At, Nothing}
+use Rattle.std.specs.Prelude.{Option, Some, None}
 use Rattle.links.specs.Links.{find_in}
 use Rattle.memory.specs.declared.Memory.{Memory}
 use Rattle.memory.specs.declared.Tally.{Tally}
@@ -16,9 +15,9 @@ abbrev pub tally_of : Memory → Tally
 tally_of m = record { size = m.size; held = m.held; questions = m.questions; hits = m.hits }
 
 -- the place that was found; past the last, where none was
-abbrev pub place_of : Found → ℕ
-place_of (At k) = k
-place_of Nothing = 64
+abbrev pub place_of : Option ℕ → ℕ
+place_of (Some k) = k
+place_of None = 64
 
 -- where x stands in l
 abbrev pub place_in : List ℕ → ℕ → ℕ

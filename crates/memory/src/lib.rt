@@ -13,7 +13,7 @@ ghost use Rattle.links.specs.Authority.{authoritative};
 ghost use Rattle.memory.specs.Remembered.{pair_of, slid};
 ghost use Rattle.memory.specs.Notes.{place_in, renewed, as_is, wiped, counting, brought, judged};
 
-use links::{Found, Lineage};
+use links::Lineage;
 use numbers::{Principal, Tag, one_more};
 
 // A pair is the number of its principal * 256 + that of its tag. The first `held` places are in use.
@@ -71,10 +71,7 @@ pub fn pair_of(p: Principal, t: Tag) -> u32
 pub fn place(pairs: &[u32; 64], n: usize, x: u32) -> usize
     ensures { result ≡ place_in (take n pairs.now) x }
 {
-    match links::find(pairs, n, x) {
-        Found::At(k) => k,
-        Found::Nothing => PAIRS,
-    }
+    links::find(pairs, n, x).unwrap_or(PAIRS)
 }
 
 // The pairs are cleared, or x comes to the front from its place; from a place past the last none does.

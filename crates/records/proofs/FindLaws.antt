@@ -5,8 +5,7 @@ use Prim.Native.Nat.{ℕ, zero, suc, ◌+◌, ◌≤◌, ◌<◌, min}
 use native.Mathlib.Nat.{le_of_suc-le-suc, not-suc-le-zero}
 use native.Mathlib.Omega.{arith}
 use lib.ListN.{length, get_or, take, drop, length-map}
-use Rattle.links.specs.declared.lists.Found.{Found}
-use Rattle.links.specs.declared.lists.Found.TheVariants.{At, Nothing}
+use Rattle.std.specs.Prelude.{Option, Some, None}
 use Rattle.links.specs.Links.{find_from}
 use Rattle.links.proofs.LinkLaws.{find-hit, find_past, find-end}
 
@@ -18,18 +17,18 @@ module _ {A : Type 0} (number : A → ℕ) where
 
   module _ (ys : List A) (n x : ℕ) where
     -- what is found from place i on
-    abbrev pub found_from : ℕ → Found
+    abbrev pub found_from : ℕ → Option ℕ
     found_from i = find_from i (drop i (take n (map number ys))) x
 
     module _ (i : ℕ) (d : A) (h : i < min n (length ys)) where
       inside : i < min n (length (map number ys))
       inside = omega (arith, h, length-map ys number)
 
-      pub found-hit : number (get_or ys i d) ≡ x → found_from i ≡ At i
+      pub found-hit : number (get_or ys i d) ≡ x → found_from i ≡ Some i
       found-hit e = find-hit (map number ys) n x i inside (number_at ys i d (omega (arith, h)) ∙ e)
 
       pub found-past : (number (get_or ys i d) ≡ x → ⊥) → found_from i ≡ found_from (i + 1)
       found-past e = find_past (map number ys) n x i inside (λ is. e (sym (number_at ys i d (omega (arith, h))) ∙ is))
 
-    pub found-end : (i : ℕ) → min n (length ys) ≤ i → found_from i ≡ Nothing
+    pub found-end : (i : ℕ) → min n (length ys) ≤ i → found_from i ≡ None
     found-end i h = find-end (map number ys) n x i (omega (arith, h, length-map ys number))

@@ -3,7 +3,7 @@ ghost use Rattle.std.specs.Prelude.{◌≡◌, ◌<◌, map, take, replicate};
 ghost use Rattle.links.specs.Links.{find_in, appended, gap_closed};
 ghost use Rattle.records.specs.Records.{principal_number, principal_link, gathered, changed, cleared};
 
-use links::{Found, principal_link, used};
+use links::{principal_link, used};
 use numbers::Principal;
 use outcomes::ListChange;
 
@@ -55,7 +55,7 @@ pub fn numbered(links: &[PrincipalLink])
 }
 
 // Where a link stands among the first n places.
-pub fn find(links: &[PrincipalLink], n: usize, l: PrincipalLink) -> Found
+pub fn find(links: &[PrincipalLink], n: usize, l: PrincipalLink) -> Option<usize>
     ensures { result ≡ find_in (take n (map principal_number links.now)) (principal_number l) }
 {
     let x = number_of(l);
@@ -63,11 +63,11 @@ pub fn find(links: &[PrincipalLink], n: usize, l: PrincipalLink) -> Found
     let mut i = 0;
     while i < end {
         if number_of(links[i]) == x {
-            return Found::At(i);
+            return Some(i);
         }
         i += 1;
     }
-    Found::Nothing
+    None
 }
 
 // A link more, at place n. A full list stays as it is.

@@ -3,7 +3,7 @@ ghost use Rattle.std.specs.Prelude.{◌≡◌, ◌<◌, map, take, replicate};
 ghost use Rattle.links.specs.Links.{find_in, appended, gap_closed};
 ghost use Rattle.records.specs.Records.{tag_number, tag_link, gathered, changed, cleared};
 
-use links::{Found, tag_link, used};
+use links::{tag_link, used};
 use numbers::{Principal, Tag};
 use outcomes::ListChange;
 
@@ -59,7 +59,7 @@ pub fn numbered(links: &[TagLink])
 }
 
 // Where a link stands among the first n places.
-pub fn find(links: &[TagLink], n: usize, l: TagLink) -> Found
+pub fn find(links: &[TagLink], n: usize, l: TagLink) -> Option<usize>
     ensures { result ≡ find_in (take n (map tag_number links.now)) (tag_number l) }
 {
     let x = number_of(l);
@@ -67,11 +67,11 @@ pub fn find(links: &[TagLink], n: usize, l: TagLink) -> Found
     let mut i = 0;
     while i < end {
         if number_of(links[i]) == x {
-            return Found::At(i);
+            return Some(i);
         }
         i += 1;
     }
-    Found::Nothing
+    None
 }
 
 // A link more, at place n. A full list stays as it is.

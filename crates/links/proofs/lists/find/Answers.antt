@@ -1,33 +1,12 @@
-use mathlib.Core.Path.{refl, sym, ◌∙◌}
-use native.Mathlib.Omega.{arith}
-use Rattle.links.proofs.LinkLaws.{find-hit, find_past, find-end}
+use Rattle.std.proofs.Common.{rules, ◌∙◌, take, eqb}
+use borrow.Author.Tests.{tests}
+use Rattle.std.proofs.lemmas.Iterator.{YieldsList-from_slice, YieldsList-from_take}
+use Rattle.std.proofs.lemmas.Iterator.Search.{position_from_yields_List}
+use Rattle.links.proofs.LinkLaws.{found_position}
 use Rattle.links.proofs.lists.find.Goals as goal
 
-pub loop-i-init : goal.loop-i-init
-loop-i-init c = (omega arith, refl)
-
-pub offset_bounds-links-i : goal.offset_bounds-links-i
-offset_bounds-links-i c = omega (arith, c.used-end.ensures)
-
-pub bounds-links-i : goal.bounds-links-i
-bounds-links-i c = omega (arith, c.used-end.ensures)
-
-pub returns-then-links-i : goal.returns-then-links-i
-returns-then-links-i c = let a = c.args in
-    let i = c.loop-i.i in
-    sym (find-hit a.links.now a.n a.x i (omega (arith, c.used-end.ensures)) c.if-links-i.true) ∙ c.loop-i.invariant.1
-
-pub overflow_add-i : goal.overflow_add-i
-overflow_add-i c = omega (arith, c.used-end.ensures)
-
-pub loop-i-smaller : goal.loop-i-smaller
-loop-i-smaller c = omega arith
-
-pub loop-i-preserved : goal.loop-i-preserved
-loop-i-preserved c = let a = c.args in
-    let i = c.loop-i.i in
-    (omega arith, sym (find_past a.links.now a.n a.x i (omega (arith, c.used-end.ensures)) c.if-links-i.false) ∙ c.loop-i.invariant.1)
-
 pub returns : goal.returns
-returns c = let a = c.args in
-    sym (find-end a.links.now a.n a.x c.loop-i.i (omega (arith, c.used-end.ensures))) ∙ c.loop-i.invariant.1
+returns c =
+    let a = c.args in
+    position_from_yields_List (λ y. eqb y a.x) _ _ _ c.position.ensures.ran (YieldsList-from_take a.n (YieldsList-from_slice a.links.now cc) cc) (λ x b q k. search (rules, tests))
+    ∙ found_position (take a.n a.links.now) a.x
