@@ -16,7 +16,7 @@ pub struct LabelPair {
 }
 
 // "Which of null, read, write or both a kind needs."
-#[derive(Clone, Copy)]
+#[derive(Clone, Copy, PartialEq, Eq)]
 pub enum Need {
     None,
     Null,
@@ -44,7 +44,7 @@ impl LabelPair {
     pub fn may_both(self, object: LabelPair) -> bool
         ensures { result ≡ may_both self object }
     {
-        self.secrecy.same_as(object.secrecy) & self.integrity.same_as(object.integrity)
+        self == object
     }
 
     pub fn meets(self, need: Need, object: LabelPair) -> bool
