@@ -18,7 +18,7 @@ fn object_more(s: Sight, r: ObjectRequest) -> bool
     let labels = row.labels;
     match r {
         ObjectRequest::New(_, l) => l.integrity.within(own.integrity),
-        ObjectRequest::Delete(_) => own.integrity.same_as(labels.integrity),
+        ObjectRequest::Delete(_) => own.integrity == labels.integrity,
         ObjectRequest::ReadCell(_) => true,
         ObjectRequest::WriteCell(_, _) => true,
         ObjectRequest::Put(_, _) => true,

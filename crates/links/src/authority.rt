@@ -33,33 +33,29 @@ pub fn acts_for(links: &[u32], n: usize, p: Principal, q: Principal) -> bool
 pub fn counted_node(links: &[u32], m: usize, t: Rooted, p: Principal) -> bool
     ensures { result ≡ counted_node (links_of links.now m t) t.root p }
 {
-    let tag = t.tag;
-    let root = t.root;
-    leads(links, m, Graph::OfTag(tag), root, p)
+    leads(links, m, Graph::OfTag(t.tag), t.root, p)
 }
 
 // "P acts for some counted node of it": one walk from the root, and one from the whole set of counted nodes.
-fn acts_for_some<'a>(
-    links: &'a [u32],
+fn acts_for_some(
+    links: &[u32],
     n: usize,
-    tag_links: &'a [u32],
+    tag_links: &[u32],
     m: usize,
     t: Rooted,
     p: Principal,
 ) -> bool
     ensures { result ≡ acts_for_some (links_in links.now n Principals) (links_of tag_links.now m t) t.root p }
 {
-    let tag = t.tag;
-    let root = t.root;
-    let nodes = led_to(tag_links, m, Graph::OfTag(tag), root);
+    let nodes = led_to(tag_links, m, Graph::OfTag(t.tag), t.root);
     has(led_to_from(links, n, Graph::Principals, nodes), p)
 }
 
 // "P is authoritative for a tag when P acts for some counted node of it, or, for a subtag, of its supertag."
-pub fn authoritative<'a>(
-    links: &'a [u32],
+pub fn authoritative(
+    links: &[u32],
     n: usize,
-    tag_links: &'a [u32],
+    tag_links: &[u32],
     m: usize,
     x: Lineage,
     p: Principal,
@@ -69,10 +65,8 @@ pub fn authoritative<'a>(
     match x {
         Lineage::Supertag(t) => acts_for_some(links, n, tag_links, m, t, p),
         Lineage::Subtag(t, above) => {
-            if acts_for_some(links, n, tag_links, m, t, p) {
-                return true;
-            }
-            acts_for_some(links, n, tag_links, m, above, p)
+            acts_for_some(links, n, tag_links, m, t, p)
+                || acts_for_some(links, n, tag_links, m, above, p)
         }
     }
 }

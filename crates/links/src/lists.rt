@@ -19,7 +19,7 @@ pub fn base_of(g: Graph) -> u32
 {
     match g {
         Graph::Principals => 0,
-        Graph::OfTag(t) => t.0 as u32 * 256,
+        Graph::OfTag(t) => u32::from(t.0) * 256,
     }
 }
 
@@ -34,14 +34,14 @@ pub fn used(places: usize, count: usize) -> usize
 pub fn principal_link(p: Principal, q: Principal) -> u32
     ensures { result ≡ link_number 0 p q }
 {
-    p.0 as u32 * 256 + q.0 as u32
+    u32::from(p.0) * 256 + u32::from(q.0)
 }
 
 // The number of a link of a tag.
 pub fn tag_link(t: Tag, p: Principal, q: Principal) -> u32
     ensures { result ≡ link_number (t.0 * 256) p q }
 {
-    (t.0 as u32 * 256 + p.0 as u32) * 256 + q.0 as u32
+    (u32::from(t.0) * 256 + u32::from(p.0)) * 256 + u32::from(q.0)
 }
 
 // Where a link stands among the first n places.

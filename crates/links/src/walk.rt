@@ -22,21 +22,17 @@ fn is_link_of(base: u32, l: u32) -> bool
     (base <= near) & ((near < base + 64) & (l % 256 < 64))
 }
 
-// Gathers those of the first n links that are of the graph with this base into empty rows.
-fn gather(links: &[u32], n: usize, base: u32, rows: &mut [u64; 64])
-    requires n_in_bounds { (n ≤ length links.now) × (base + 64 < 4294967296) }
+// Gathers those of the links that are of the graph with this base into empty rows.
+fn gather(links: &[u32], base: u32, rows: &mut [u64; 64])
+    requires base_low { base + 64 < 4294967296 }
     requires rows { Rows [] rows.old }
-    ensures { Rows (links_from base (take n links.now)) rows.new }
+    ensures { Rows (links_from base links.now) rows.new }
 {
-    let mut i = 0;
-    while i < n {
-        let l = links[i];
-        if is_link_of(base, l) {
+    for l in links {
+        if is_link_of(base, *l) {
             let p = (l / 256 - base) as usize;
-            let row = rows[p];
-            rows[p] = row | (1 << (l % 256));
+            rows[p] |= 1 << (l % 256);
         }
-        i += 1;
     }
 }
 
@@ -58,9 +54,8 @@ fn visit_each(rows: &[u64; 64], set: u64, seen: u64) -> u64
     let mut s = seen;
     let mut rest = set & !s;
     while 0 < rest {
-        let r = visit(rows, u64::trailing_zeros(rest), s);
-        s = r;
-        rest = set & !r;
+        s = visit(rows, rest.trailing_zeros(), s);
+        rest = set & !s;
     }
     s
 }
@@ -70,7 +65,7 @@ pub fn led_to_from(links: &[u32], n: usize, g: Graph, starts: u64) -> u64
     ensures { result ≡ led_to_from (links_in links.now n g) starts }
 {
     let mut rows = [0u64; 64];
-    gather(links, used(links.len(), n), base_of(g), &mut rows);
+    gather(&links[..used(links.len(), n)], base_of(g), &mut rows);
     visit_each(&rows, starts, 0)
 }
 
@@ -88,15 +83,12 @@ pub fn led_to(links: &[u32], n: usize, g: Graph, p: Principal) -> u64
 pub fn leads(links: &[u32], n: usize, g: Graph, p: Principal, q: Principal) -> bool
     ensures { result ≡ leads (links_in links.now n g) p.0 q.0 }
 {
-    if p.0 == q.0 {
-        return true;
-    }
-    has(led_to(links, n, g, p), q)
+    p == q || has(led_to(links, n, g, p), q)
 }
 
 // A principal is in a set of principals.
 pub fn has(s: u64, p: Principal) -> bool
     ensures { result ≡ contains s p.0 }
 {
-    if p.0 < 64 { (s >> p.0) & 1 == 1 } else { false }
+    p.0 < 64 && (s >> p.0) & 1 == 1
 }

@@ -83,12 +83,6 @@ pub within-antisym : (a b : Label) → Is64Bit a → Is64Bit b → within a b �
 within-antisym a b ha hb p q =
     same-tags a b ha hb (λ n h. both_ways (member a n) (member b n) ((within-is a b).0 p n h) ((within-is b a).0 q n h))
 
-pub empty-within : (a b : Label) → is_empty a ≡ true → within a b ≡ true
-empty-within a b e = (within-is a b).1 (λ n h m. absurd (never m (member-empty a e n)))
-
-pub within-with : (l : Label) (t : Tag) → within l (with_tag l t) ≡ true
-within-with l t = (within-is l (with_tag l t)).1 (λ n h m. member-with l t n h ∙ or_left (member l n) (eqb n t.0) m)
-
 pub without-within : (l : Label) (t : Tag) → within (without_tag l t) l ≡ true
 without-within l t =
     (within-is (without_tag l t) l).1 (λ n h m. and_left (member l n) (not (eqb n t.0)) (sym (member-without l t n h) ∙ m))
@@ -147,9 +141,6 @@ made_more l j k h e = (made-is l k).1 (λ n g m. let low : n < j = (made-is l j)
 
 pub made-within : (a b : Label) (count : ℕ) → within a b ≡ true → names_only_made b count ≡ true → names_only_made a count ≡ true
 made-within a b count p e = (made-is a count).1 (λ n h m. (made-is b count).0 e n h ((within-is a b).0 p n h m))
-
-pub made-empty : (l : Label) (count : ℕ) → is_empty l ≡ true → names_only_made l count ≡ true
-made-empty l count e = (made-is l count).1 (λ n h m. absurd (never m (member-empty l e n)))
 
 pub made-with : (l : Label) (t : Tag) (count : ℕ) → t.0 < count → names_only_made l count ≡ true → names_only_made (with_tag l t) count ≡ true
 made-with l t count h e =

@@ -9,14 +9,14 @@ use crate::labels::Label;
 
 // The two labels of a thread, S and I, or of an object, s and i.
 #[repr(C)]
-#[derive(Clone, Copy)]
+#[derive(Clone, Copy, PartialEq, Eq)]
 pub struct LabelPair {
     pub secrecy: Label,
     pub integrity: Label,
 }
 
 // "Which of null, read, write or both a kind needs."
-#[derive(Clone, Copy)]
+#[derive(Clone, Copy, PartialEq, Eq)]
 pub enum Need {
     None,
     Null,
@@ -44,7 +44,7 @@ impl LabelPair {
     pub fn may_both(self, object: LabelPair) -> bool
         ensures { result ≡ may_both self object }
     {
-        self.secrecy.same_as(object.secrecy) & self.integrity.same_as(object.integrity)
+        self == object
     }
 
     pub fn meets(self, need: Need, object: LabelPair) -> bool

@@ -14,17 +14,17 @@ pub use flow::{LabelPair, Need};
 pub use labels::Label;
 
 #[repr(C)]
-#[derive(Clone, Copy)]
+#[derive(Clone, Copy, PartialEq, Eq)]
 pub struct Principal(pub u8);
 
 #[repr(C)]
-#[derive(Clone, Copy)]
+#[derive(Clone, Copy, PartialEq, Eq)]
 pub struct Tag(pub u8);
 
-#[derive(Clone, Copy)]
+#[derive(Clone, Copy, PartialEq, Eq)]
 pub struct Thread(pub u8);
 
-#[derive(Clone, Copy)]
+#[derive(Clone, Copy, PartialEq, Eq)]
 pub struct Object(pub u8);
 
 // "Number 0 is the public, 1 is the office."
@@ -75,12 +75,9 @@ pub const LINE_MEMORY: usize = 8;
 // "over 72 digits is refused": the longest frame has 36 bytes.
 pub const DIGITS: usize = 72;
 
-// "Questions and hits are 32-bit and stay at 4,294,967,295."
-pub const COUNT_TOP: u32 = 4294967295;
-
-// One more question or hit.
+// One more question or hit. "Questions and hits are 32-bit and stay at 4,294,967,295."
 pub fn one_more(count: u32) -> u32
     ensures { result ≡ one_more count }
 {
-    if count < COUNT_TOP { count + 1 } else { count }
+    count.saturating_add(1)
 }

@@ -17,8 +17,8 @@ visit-returns t c = let a = c.args in met-one a.rows.now a.seen a.p c.visit_each
 pub visit_each-loop-rest-init : goal.visit_each-loop-rest-init
 visit_each-loop-rest-init t c = let a = c.args in (refl, c.ranges.seen.fits, meeting-none a.rows.now a.set a.seen)
 
-pub visit_each-visit-r-requires : goal.visit_each-visit-r-requires
-visit_each-visit-r-requires t c =
+pub visit_each-visit-s-requires : goal.visit_each-visit-s-requires
+visit_each-visit-s-requires t c =
     let a = c.args in
     let o = c.loop-rest in
     let fewer = left_le a.seen o.s o.invariant.2.kept in
@@ -32,14 +32,14 @@ pub visit_each-loop-rest-smaller : goal.visit_each-loop-rest-smaller
 visit_each-loop-rest-smaller t c =
     let a = c.args in
     let o = c.loop-rest in
-    next-falls a.set o.s o.rest c.ranges.set.fits o.invariant.1 o.invariant.0 c.loop-rest-test.true a.rows.now c.visit-r.result c.visit-r.ensures
+    next-falls a.set o.s o.rest c.ranges.set.fits o.invariant.1 o.invariant.0 c.loop-rest-test.true a.rows.now c.visit-s.result c.visit-s.ensures
 
 pub visit_each-loop-rest-preserved : goal.visit_each-loop-rest-preserved
 visit_each-loop-rest-preserved t c =
     let a = c.args in
     let o = c.loop-rest in
     let one = next_of a.set o.s o.rest c.ranges.set.fits o.invariant.1 o.invariant.0 c.loop-rest-test.true in
-    (refl, omega (arith, c.visit-r.type_inv), meeting-next a.rows.now a.set a.seen o.s (count_trailing_zeros 64 o.rest) c.visit-r.result o.invariant.2 one c.visit-r.ensures)
+    (refl, omega (arith, c.visit-s.type_inv), meeting-next a.rows.now a.set a.seen o.s (count_trailing_zeros 64 o.rest) c.visit-s.result o.invariant.2 one c.visit-s.ensures)
 
 pub visit_each-returns : goal.visit_each-returns
 visit_each-returns t c =

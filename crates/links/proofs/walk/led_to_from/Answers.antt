@@ -12,13 +12,12 @@ use Rattle.links.proofs.walk.led_to_from.Goals as goal
 
 pub gather-requires : goal.gather-requires
 gather-requires c = let base = c.base_of in
-    record { n_in_bounds = (omega (arith, c.used.ensures), base-room c.args.g base.result base.ensures (omega (arith, base.type_inv))); rows = rows_none }
+    record { base_low = base-room c.args.g base.result base.ensures (omega (arith, base.type_inv)); rows = rows_none }
 
 pub returns : goal.returns
 returns c = let a = c.args in
-    let l = a.links.now in
     let base = c.base_of in
     let n = c.used in
-    let xs = take n.result l in
+    let xs = take n.result a.links.now in
     met-is (links_from base.result xs) (links_from-low base.result xs) _ c.gather.ensures a.starts c.visit_each.result c.ranges.starts.fits (omega (arith, c.visit_each.type_inv)) c.visit_each.ensures
-    ∙ ap (λ (ls : List Link). led_to_from ls a.starts) (in_use l a.n a.g base.result n.result base.ensures n.ensures)
+    ∙ ap (λ (ls : List Link). led_to_from ls a.starts) (in_use a.links.now a.n a.g base.result n.result base.ensures n.ensures)
