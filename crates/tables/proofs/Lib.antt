@@ -1,3 +1,4 @@
 pub mod Said
+pub mod First
 pub mod Among
 pub mod Lineages
