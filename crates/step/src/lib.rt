@@ -33,13 +33,15 @@ pub struct Stepped {
     pub grants: ListChange,
 }
 
-// What a request knows of the memory: only where it asks for authority are the pairs looked through.
+// What a request knows of the memory: only where it asks for authority are the pairs that are held looked through.
 fn recall(s: &State, sight: Sight, r: Request) -> Recalled
     ensures { result ≡ recall_of s.now.memory sight r }
 {
     let tally = tally(s);
-    let q = question_of(sight, tally, r);
-    let place = place_of(s, q.first, q.pair);
+    let place = match question_of(sight, r) {
+        Some(pair) => place_of(s, tally.held, pair),
+        None => None,
+    };
     Recalled { tally, place }
 }
 
