@@ -55,8 +55,7 @@ pub fn asking_of(frame: &[u8]) -> Asking
 pub fn question_of(s: Sight, r: Request) -> Option<u32>
     ensures { result ≡ question_of s r }
 {
-    let caller = s.caller;
-    asks_authority(s, r).then_some(pair_of(caller.principal, tag_named(r)))
+    asks_authority(s, r).then_some(pair_of(s.caller.principal, tag_named(r)))
 }
 
 // What a request knows of the memory: its numbers, and where the pair stands that it asks about.
@@ -91,19 +90,19 @@ fn follow_row<'a>(s: Sight, m: Recalled, links: &'a [u32], grants: &'a [u32], r:
 {
     let t = m.tally;
     let Some(pair) = question_of(s, r) else {
-        let outcome = decide(s, links, grants, r, false);
-        let note = as_is(t);
-        return Weighed { outcome, note };
+        return Weighed {
+            outcome: decide(s, links, grants, r, false),
+            note: as_is(t),
+        };
     };
-    let caller = s.caller;
-    let p = caller.principal;
-    let lineage = s.lineage;
+    let p = s.caller.principal;
     let verdict = memory::ask(
-        t, m.place, pair, links, s.links, grants, s.grants, lineage, p,
+        t, m.place, pair, links, s.links, grants, s.grants, s.lineage, p,
     );
-    let outcome = decide(s, links, grants, r, verdict.yes);
-    let note = verdict.note;
-    Weighed { outcome, note }
+    Weighed {
+        outcome: decide(s, links, grants, r, verdict.yes),
+        note: verdict.note,
+    }
 }
 
 // The whole of it: 1, 2, 3 and 4 in order, then the row. It changes nothing.

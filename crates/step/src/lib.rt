@@ -38,10 +38,7 @@ fn recall(s: &State, sight: Sight, r: Request) -> Recalled
     ensures { result ≡ recall_of s.now.memory sight r }
 {
     let tally = tally(s);
-    let place = match question_of(sight, r) {
-        Some(pair) => place_of(s, tally.held, pair),
-        None => None,
-    };
+    let place = question_of(sight, r).and_then(|pair| place_of(s, tally.held, pair));
     Recalled { tally, place }
 }
 

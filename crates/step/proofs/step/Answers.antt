@@ -1,6 +1,6 @@
 -- What the request comes to, by what is read of the state, is what it is defined to come to (`act`, proofs/Stepping): a law for each
 -- of the step's clauses. Assumes nothing.
-use Rattle.std.proofs.Common.{◌≡◌, ◌≤◌, List, ℕ, length, sym, ap, subst, ◌∙◌}
+use Rattle.std.proofs.Common.{◌≤◌, List, ℕ, length, sym, ap, subst, ◌∙◌}
 use Rattle.memory.specs.Notes.{noted}
 use Rattle.answers.specs.Answers.{status_of, answer_bytes, front}
 use Rattle.outcomes.specs.declared.Outcome.{Outcome}
@@ -12,7 +12,6 @@ use Rattle.act.specs.World.{HasRoom}
 use Rattle.act.proofs.Stepping as stepping
 use Rattle.step.specs.declared.Seen.{Seen}
 use Rattle.step.specs.declared.Stepped.{Stepped}
-use Rattle.step.specs.Look.{seen_of}
 use Rattle.step.proofs.step.Goals as goal
 
 -- what `act` asks of what is read
