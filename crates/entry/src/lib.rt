@@ -12,7 +12,7 @@ ghost use Rattle.entry.specs.Entry.{whole_places, reply_in, over_records, answer
 
 use lent::counts_of;
 use monitor::reply;
-use records::{PrincipalLink, TagLink, principals, tags};
+use records::{Link, PrincipalLink, TagLink, numbered, numbers_of, put_back};
 use state::State;
 
 // "256 places each"
@@ -49,16 +49,16 @@ pub fn request(
     ensures store_after { store.new ≡ (over_records s.old links.old grants.old store.old frame.now answer.old).store }
     ensures answer_after { answer.new ≡ (over_records s.old links.old grants.old store.old frame.now answer.old).answer }
 {
-    principals::numbered(links);
-    tags::numbered(grants);
-    let numbers = principals::numbers_of(links);
-    let tag_numbers = tags::numbers_of(grants);
+    numbered(links);
+    numbered(grants);
+    let numbers = numbers_of(links);
+    let tag_numbers = numbers_of(grants);
     let n = whole_places(links.len());
     let k = whole_places(grants.len());
     let used = counts_of(s);
     let told = reply(s, &numbers[..n], &tag_numbers[..k], store, frame, answer);
-    principals::put_back(links, used.links, told.links);
-    tags::put_back(grants, used.grants, told.grants);
+    put_back(links, used.links, told.links);
+    put_back(grants, used.grants, told.grants);
     Reply {
         status: told.status,
         written: told.written,
@@ -76,8 +76,8 @@ pub struct Lists {
 pub fn no_links() -> Lists
     ensures { result ≡ no_links }
 {
-    let links = [principals::link_of(0); 256];
-    let grants = [tags::link_of(0); 256];
+    let links = [PrincipalLink::link_of(0); 256];
+    let grants = [TagLink::link_of(0); 256];
     Lists { links, grants }
 }
 

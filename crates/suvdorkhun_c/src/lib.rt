@@ -13,7 +13,7 @@ ghost use Rattle.suvdorkhun_c.specs.Size.{state_size};
 
 use entry::{Reply, request};
 use lent::{forget, put_whole};
-use records::{PrincipalLink, TagLink, principals, tags};
+use records::{PrincipalLink, TagLink};
 use session::run;
 use state::{State, start};
 use tables::says::flag_of;
@@ -48,8 +48,8 @@ pub extern "C" fn suvdorkhun_start(
     ensures grants_after { grants.new ≡ cleared_links (tag_link 0) grants.old }
     ensures store_after { store.new ≡ zeroed store.old }
 {
-    principals::clear(links);
-    tags::clear(grants);
+    records::clear(links);
+    records::clear(grants);
     let first = start(size, store);
     put_whole(state, first.state);
     first.status
