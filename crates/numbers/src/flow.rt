@@ -9,7 +9,7 @@ use crate::labels::Label;
 
 // The two labels of a thread, S and I, or of an object, s and i.
 #[repr(C)]
-#[derive(Clone, Copy)]
+#[derive(Clone, Copy, PartialEq, Eq)]
 pub struct LabelPair {
     pub secrecy: Label,
     pub integrity: Label,

@@ -19,7 +19,7 @@ ghost use Rattle.numbers.specs.LabelBytes.{number_of, label_of_bytes, bytes_of_l
 use crate::{TAGS, Tag};
 
 #[repr(C)]
-#[derive(Clone, Copy)]
+#[derive(Clone, Copy, PartialEq, Eq)]
 pub struct Label(pub u64);
 
 impl Label {
