@@ -4,11 +4,11 @@ use Prim.Native.Nat.{ℕ, ◌≤◌}
 use Rattle.needs.proofs.KindLaws.{none_of}
 use Rattle.frames.specs.Requests.{fixed_length, length_byte}
 
-pub unknown-has-no-length : (k : ℕ) → 0x1C ≤ k → fixed_length k ≡ 0
+pub unknown_has_no_length : (k : ℕ) → 0x1C ≤ k → fixed_length k ≡ 0
 unfolding fixed_length
-unknown-has-no-length k h =
+unknown_has_no_length k h =
     rw (none_of _ 0x1C k refl h, none_of _ 0x1C k refl h, none_of _ 0x1C k refl h, none_of _ 0x1C k refl h, none_of _ 0x1C k refl h)
 
-pub unknown-has-no-message : (k : ℕ) → 0x1C ≤ k → length_byte k ≡ 0
+pub unknown_has_no_message : (k : ℕ) → 0x1C ≤ k → length_byte k ≡ 0
 unfolding length_byte
-unknown-has-no-message k h = rw (none_of _ 0x1C k refl h, none_of _ 0x1C k refl h)
+unknown_has_no_message k h = rw (none_of _ 0x1C k refl h, none_of _ 0x1C k refl h)

@@ -8,27 +8,25 @@ use needs::KINDS;
 use numbers::LONGEST;
 
 // How long a frame of a kind is, but for the bytes of a message.
-const LENGTHS: [u8; 28] = [
+const LENGTHS: [u8; KINDS] = [
     0, 2, 4, 4, 4, 2, 3, 5, 5, 3, 3, 3, 3, 3, 3, 2, 3, 2, 19, 3, 3, 4, 4, 3, 3, 3, 3, 3,
 ];
 
 // Where the length byte of its message stands; 0 where it has none.
-const LENGTH_BYTES: [u8; 28] = [
+const LENGTH_BYTES: [u8; KINDS] = [
     0, 0, 0, 0, 0, 0, 0, 0, 0, 0, 0, 0, 0, 0, 0, 0, 0, 0, 0, 0, 0, 3, 3, 0, 0, 0, 2, 2,
 ];
 
 fn fixed_length(kind: u8) -> u8
     ensures { result ≡ fixed_length kind }
 {
-    let k = kind as usize;
-    if k < KINDS { LENGTHS[k] } else { 0 }
+    LENGTHS.get(kind as usize).copied().unwrap_or(0)
 }
 
 fn length_byte(kind: u8) -> u8
     ensures { result ≡ length_byte kind }
 {
-    let k = kind as usize;
-    if k < KINDS { LENGTH_BYTES[k] } else { 0 }
+    LENGTH_BYTES.get(kind as usize).copied().unwrap_or(0)
 }
 
 fn message_length(frame: &[u8]) -> u8

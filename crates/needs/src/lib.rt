@@ -44,7 +44,6 @@ const NEEDS: [Need; KINDS] = [
 ];
 
 // What a kind needs of the flow. A kind that is not known needs nothing: it is refused before.
-#[tactic(auto, using(crate::proofs::KindLaws::unknown_needs_none, crate::proofs::KindLaws::known_needs))]
 pub fn need_of(kind: u8) -> Need
     ensures { result ≡ need_of kind }
 {

@@ -1,13 +1,12 @@
-use mathlib.Core.Path.{sym}
-use native.Mathlib.Omega.{arith}
-use Rattle.numbers.proofs.Table.{entry}
+use Rattle.std.proofs.Common.{rules, ◌≡◌, ◌∙◌, get_or}
+use Rattle.numbers.proofs.Table.{values}
+use Rattle.needs.proofs.KindLaws.{in_table}
 use Rattle.frames.specs.Requests.{fixed_length}
-use Rattle.frames.proofs.KindLaws.{unknown-has-no-length}
+use Rattle.frames.proofs.KindLaws.{unknown_has_no_length}
 use Rattle.frames.proofs.form.fixed_length.Goals as goal
 
-pub returns-then-k-lt-KINDS : goal.returns-then-k-lt-KINDS
+pub returns : goal.returns
 unfolding fixed_length
-returns-then-k-lt-KINDS c = entry fixed_length 28 c.args.kind 0 (omega arith)
-
-pub returns-else-k-lt-KINDS : goal.returns-else-k-lt-KINDS
-returns-else-k-lt-KINDS c = sym (unknown-has-no-length c.args.kind (omega arith))
+returns c =
+    let read : c.unwrap_or.result ≡ get_or (values fixed_length 0 0x1C) c.args.kind 0 = search rules in
+    read ∙ in_table fixed_length 0 unknown_has_no_length c.args.kind
