@@ -24,16 +24,13 @@ pub struct Writes {
 fn no_writes(c: Counts) -> Writes
     ensures { result ≡ no_writes c }
 {
-    let thread_row = no_thread();
-    let tag_row = no_tag();
-    let object_row = no_object();
     Writes {
         thread: THREADS,
-        thread_row,
+        thread_row: no_thread(),
         tag: TAGS,
-        tag_row,
+        tag_row: no_tag(),
         object: OBJECTS,
-        object_row,
+        object_row: no_object(),
         counts: c,
     }
 }
@@ -41,58 +38,61 @@ fn no_writes(c: Counts) -> Writes
 fn writes_thread(c: Counts, n: usize, row: ThreadRow) -> Writes
     ensures { result ≡ writes_thread c n row }
 {
-    let mut w = no_writes(c);
-    w.thread = n;
-    w.thread_row = row;
-    w
+    Writes {
+        thread: n,
+        thread_row: row,
+        ..no_writes(c)
+    }
 }
 
 fn writes_principal(c: Counts) -> Writes
     requires { c.principals < 64 }
     ensures { result ≡ writes_principal c }
 {
-    let mut counts = c;
-    counts.principals = c.principals + 1;
-    no_writes(counts)
+    no_writes(Counts {
+        principals: c.principals + 1,
+        ..c
+    })
 }
 
 fn writes_tag(c: Counts, row: TagRow) -> Writes
     requires { c.tags < 64 }
     ensures { result ≡ writes_tag c row }
 {
-    let mut counts = c;
-    counts.tags = c.tags + 1;
-    let mut w = no_writes(counts);
-    w.tag = c.tags as usize;
-    w.tag_row = row;
-    w
+    let counts = Counts {
+        tags: c.tags + 1,
+        ..c
+    };
+    Writes {
+        tag: c.tags as usize,
+        tag_row: row,
+        ..no_writes(counts)
+    }
 }
 
 fn writes_object(c: Counts, o: usize, row: ObjectRow) -> Writes
     ensures { result ≡ writes_object c o row }
 {
-    let mut w = no_writes(c);
-    w.object = o;
-    w.object_row = row;
-    w
+    Writes {
+        object: o,
+        object_row: row,
+        ..no_writes(c)
+    }
 }
 
 fn labelled(row: ThreadRow, labels: LabelPair) -> ThreadRow
     ensures { result ≡ labelled row labels }
 {
-    let mut next = row;
-    next.labels = labels;
-    next
+    ThreadRow { labels, ..row }
 }
 
 fn forked(row: ThreadRow, p: Principal) -> ThreadRow
     ensures { result ≡ forked row p }
 {
-    let labels = row.labels;
     ThreadRow {
         live: 1,
         principal: p,
-        labels,
+        labels: row.labels,
         calls: 0,
         aside: [Principal(PUBLIC); 8],
     }
@@ -103,13 +103,14 @@ fn called(row: ThreadRow, p: Principal) -> ThreadRow
     requires { row.calls < 8 }
     ensures { result ≡ called row p }
 {
-    let k = row.calls;
-    let who = row.principal;
-    let mut next = row;
-    next.aside[k] = who;
-    next.calls = k + 1;
-    next.principal = p;
-    next
+    let mut aside = row.aside;
+    aside[row.calls] = row.principal;
+    ThreadRow {
+        principal: p,
+        calls: row.calls + 1,
+        aside,
+        ..row
+    }
 }
 
 // "last one put aside is back; labels stay"
@@ -117,13 +118,16 @@ fn back_from(row: ThreadRow) -> ThreadRow
     requires { (0 < row.calls) × (row.calls ≤ 8) }
     ensures { result ≡ back_from row }
 {
-    let k = row.calls - 1;
-    let aside = row.aside;
-    let mut next = row;
-    next.principal = aside[k];
-    next.aside[k] = Principal(PUBLIC);
-    next.calls = k;
-    next
+    let calls = row.calls - 1;
+    let principal = row.aside[calls];
+    let mut aside = row.aside;
+    aside[calls] = Principal(PUBLIC);
+    ThreadRow {
+        principal,
+        calls,
+        aside,
+        ..row
+    }
 }
 
 // The caller has the number n and the row `own`.
