@@ -1,6 +1,6 @@
 -- What the request comes to, by what is read of the state, is what it is defined to come to (`act`, proofs/Stepping): a law for each
 -- of the step's clauses. Assumes nothing.
-use Rattle.std.proofs.Common.{◌≡◌, ◌≤◌, List, ℕ, length, sym, ap, subst, ◌∙◌}
+use Rattle.std.proofs.Common.{◌≤◌, List, ℕ, length, sym, ap, subst, ◌∙◌}
 use Rattle.numbers.specs.Numbers.{most_remembered}
 use Rattle.memory.specs.Notes.{noted}
 use Rattle.answers.specs.Answers.{status_of, answer_bytes, front}
@@ -13,7 +13,6 @@ use Rattle.act.specs.World.{HasRoom}
 use Rattle.act.proofs.Stepping as stepping
 use Rattle.step.specs.declared.Seen.{Seen}
 use Rattle.step.specs.declared.Stepped.{Stepped}
-use Rattle.step.specs.Look.{seen_of}
 use Rattle.step.proofs.step.Goals as goal
 
 -- what `act` asks of what is read
@@ -30,15 +29,15 @@ act-acted-requires c =
     let a = c.args in
     let s = a.s.now in
     let n = c.sized.ensures in
-    let fits = stepping.fits s a.links.now a.grants.now a.store.now a.frame.now c.requires.0 n.threads n.kinds n.objects n.pairs in
-    let room = stepping.room s a.links.now a.grants.now a.store.now a.frame.now c.requires.0 n.threads n.kinds n.objects n.pairs in
+    let fits = stepping.fits s a.links.now a.grants.now a.store.now a.frame.now c.requires.0 n.threads n.objects n.pairs in
+    let room = stepping.room s a.links.now a.grants.now a.store.now a.frame.now c.requires.0 n.threads n.objects n.pairs in
     subst (Asks a.links.now a.grants.now a.store.now a.frame.now a.answer.now) (sym c.look-seen.ensures) (fits.small, (room, c.requires.1))
 
 pub returns-clause-value : goal.returns-clause-value
 returns-clause-value c =
     let a = c.args in
     let n = c.sized.ensures in
-    let same = stepping.same_outcome a.s.now a.links.now a.grants.now a.store.now a.frame.now c.requires.0 n.threads n.kinds n.objects n.pairs in
+    let same = stepping.same_outcome a.s.now a.links.now a.grants.now a.store.now a.frame.now c.requires.0 n.threads n.objects n.pairs in
     ap told c.act-acted.ensures.value
     ∙ ap (λ (y : Seen). told (acted y.sight y.own y.recalled a.links.now a.grants.now a.store.now a.frame.now)) c.look-seen.ensures
     ∙ ap (λ (o : Outcome). record { status = status_of o.answer; written = length (answer_bytes a.frame.now a.store.now o.answer); links = o.links; grants = o.grants }) same
@@ -51,13 +50,13 @@ returns-clause-s_after c =
     c.write_all.ensures
     ∙ ap (λ (z : Acted). record { tables = written s.tables z.writes; memory = noted s.memory z.note }) c.act-acted.ensures.value
     ∙ ap (λ (y : Seen). let z : Acted = acted y.sight y.own y.recalled a.links.now a.grants.now a.store.now a.frame.now in record { tables = written s.tables z.writes; memory = noted s.memory z.note }) c.look-seen.ensures
-    ∙ stepping.leaves s a.links.now a.grants.now a.store.now a.frame.now c.requires.0 n.threads n.kinds n.objects n.pairs a.answer.now
+    ∙ stepping.leaves s a.links.now a.grants.now a.store.now a.frame.now c.requires.0 n.threads n.objects n.pairs a.answer.now
 
 pub returns-clause-store_after : goal.returns-clause-store_after
 returns-clause-store_after c =
     let a = c.args in
     let n = c.sized.ensures in
-    let same = stepping.same_outcome a.s.now a.links.now a.grants.now a.store.now a.frame.now c.requires.0 n.threads n.kinds n.objects n.pairs in
+    let same = stepping.same_outcome a.s.now a.links.now a.grants.now a.store.now a.frame.now c.requires.0 n.threads n.objects n.pairs in
     c.act-acted.ensures.store_after
     ∙ ap (λ (y : Seen). apply_store (weighed_by y.sight a.links.now a.grants.now y.recalled a.frame.now).outcome.store a.frame.now a.store.now) c.look-seen.ensures
     ∙ ap (λ (o : Outcome). apply_store o.store a.frame.now a.store.now) same
@@ -66,7 +65,7 @@ pub returns-clause-answer_after : goal.returns-clause-answer_after
 returns-clause-answer_after c =
     let a = c.args in
     let n = c.sized.ensures in
-    let same = stepping.same_outcome a.s.now a.links.now a.grants.now a.store.now a.frame.now c.requires.0 n.threads n.kinds n.objects n.pairs in
+    let same = stepping.same_outcome a.s.now a.links.now a.grants.now a.store.now a.frame.now c.requires.0 n.threads n.objects n.pairs in
     c.act-acted.ensures.answer_after
     ∙ ap (λ (y : Seen). front (answer_bytes a.frame.now a.store.now (weighed_by y.sight a.links.now a.grants.now y.recalled a.frame.now).outcome.answer) a.answer.now) c.look-seen.ensures
     ∙ ap (λ (o : Outcome). front (answer_bytes a.frame.now a.store.now o.answer) a.answer.now) same
