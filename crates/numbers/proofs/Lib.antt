@@ -2,6 +2,7 @@ pub mod Chain
 pub mod Table
 pub mod Bools
 pub mod Below
+pub mod BelowLists
 pub mod Says
 pub mod Sets
 pub mod LabelLaws

@@ -1,4 +1,3 @@
 pub mod Said
-pub mod First
 pub mod Among
 pub mod Lineages
