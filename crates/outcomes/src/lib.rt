@@ -11,7 +11,7 @@ use numbers::{LabelPair, Principal};
 use tables::rows::{ObjectRow, TagRow};
 
 // A lent list gets a link more, or loses the one at a place.
-#[derive(Clone, Copy)]
+#[derive(Clone, Copy, PartialEq, Eq)]
 pub enum ListChange {
     Keep,
     Append(u32),
@@ -20,7 +20,7 @@ pub enum ListChange {
 
 // A message is put at a place, an object's first is taken, or all its places are freed. Places are given by
 // where they begin.
-#[derive(Clone, Copy)]
+#[derive(Clone, Copy, PartialEq, Eq)]
 pub enum StoreChange {
     Keep,
     Put(usize, Span),
@@ -29,7 +29,7 @@ pub enum StoreChange {
 }
 
 // One row changes, or one is new. Where none is named, it is the caller's own.
-#[derive(Clone, Copy)]
+#[derive(Clone, Copy, PartialEq, Eq)]
 pub enum RowChange {
     Keep,
     NewPrincipal,
@@ -42,7 +42,7 @@ pub enum RowChange {
     Object(usize, ObjectRow),
 }
 
-#[derive(Clone, Copy)]
+#[derive(Clone, Copy, PartialEq, Eq)]
 pub struct Outcome {
     pub answer: Answer,
     pub links: ListChange,
