@@ -8,7 +8,7 @@
 
 ghost use Rattle.std.specs.Prelude.{◌≡◌, map};
 ghost use Rattle.records.specs.Records.{principal_link, tag_link};
-ghost use Rattle.entry.specs.Entry.{whole_places, reply_in, over_records, answered_of, no_links};
+ghost use Rattle.entry.specs.Entry.{whole_places, reply_in, over_records, no_links};
 
 use lent::counts_of;
 use monitor::reply;
@@ -79,36 +79,4 @@ pub fn no_links() -> Lists
     let links = [PrincipalLink::link_of(0); 256];
     let grants = [TagLink::link_of(0); 256];
     Lists { links, grants }
-}
-
-// What a request leaves of its state and lists.
-#[derive(Clone, Copy)]
-pub struct Answered {
-    pub reply: Reply,
-    pub state: State,
-    pub lists: Lists,
-}
-
-// The request of a caller that holds its state and lists by value: they are lent for it.
-pub fn request_with(
-    s: State,
-    lists: Lists,
-    store: &mut [u8],
-    frame: &[u8],
-    answer: &mut [u8],
-) -> Answered
-    ensures value { result ≡ answered_of s lists store.old frame.now answer.old }
-    ensures store_after { store.new ≡ (over_records s lists.links lists.grants store.old frame.now answer.old).store }
-    ensures answer_after { answer.new ≡ (over_records s lists.links lists.grants store.old frame.now answer.old).answer }
-{
-    let mut state = s;
-    let mut links = lists.links;
-    let mut grants = lists.grants;
-    let reply = request(&mut state, &mut links, &mut grants, store, frame, answer);
-    let lent = Lists { links, grants };
-    Answered {
-        reply,
-        state,
-        lists: lent,
-    }
 }
