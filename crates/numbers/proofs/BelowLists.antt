@@ -5,6 +5,7 @@ use mathlib.Core.Bool.{Bool, true, ◌&&◌, ◌||◌}
 use mathlib.Core.List.{List, [], ◌∷◌}
 use mathlib.Core.Logic.{⊎_elim}
 use Prim.Native.Nat.{ℕ, zero, suc, ◌+◌, ◌-◌, ◌≤◌}
+use native.Mathlib.Nat.{zero-add}
 use native.Mathlib.Numerals.{add-one}
 use native.Mathlib.Omega.{arith}
 use borrow.Author.Tests.{ltb-true, ltb-false}
@@ -74,8 +75,8 @@ module _ {A : Type 0} (f : A → Bool) where
   pub fold_all : (l : List A) → fold (λ ok x. ok && f x) true l ≡ list_all f l
   fold_all l = fold_from l true
 
--- of the n numbers from a on, as a range gives them
-pub all_range : (f : ℕ → Bool) (a n : ℕ) → list_all f (range_with_len a n) ≡ all_below n (λ i. f (a + i))
-all_range f a n =
-    all_rows f 0 (range_with_len a n) n (length-range_with_len a n)
-    ∙ all_same n (λ i. f (get_or (range_with_len a n) i 0)) (λ i. f (a + i)) (λ i h. ap f (get_or-range_with_len a n i 0 h))
+-- of the numbers below n, as a range gives them
+pub all_range : (f : ℕ → Bool) (n : ℕ) → list_all f (range_with_len 0 n) ≡ all_below n f
+all_range f n =
+    all_rows f 0 (range_with_len 0 n) n (length-range_with_len 0 n)
+    ∙ all_same n (λ i. f (get_or (range_with_len 0 n) i 0)) f (λ i h. ap f (get_or-range_with_len 0 n i 0 h ∙ zero-add i))
