@@ -1,10 +1,8 @@
 -- What the entry leaves, by the tests it makes: 10, 9, or the step's own. Assumes nothing.
-use mathlib.Core.Path.{◌≡◌, refl, sym}
+use mathlib.Core.Path.{◌≡◌, refl}
 use mathlib.Core.Bool.{Bool, true, false, not, cond}
 use mathlib.Core.List.{List}
-use Prim.Native.Nat.{ℕ, ◌<◌, ◌≤◌}
-use native.Mathlib.Omega.{arith}
-use borrow.Author.Tests.{not-false, ltb-false}
+use Prim.Native.Nat.{ℕ}
 use lib.Dec.{ltb}
 use lib.ListN.{length}
 use Rattle.numbers.proofs.Chain.{skip, hit}
@@ -14,7 +12,8 @@ use Rattle.state.specs.declared.State.{State}
 use Rattle.step.specs.declared.Stepped.{Stepped}
 use Rattle.act.specs.Step.{After, stepped}
 use Rattle.step.specs.Look.{step_of}
-use Rattle.monitor.specs.Monitor.{shortest_buffer, quiet, no_room, broken, requested, reply_of, stop_of, stop_answer}
+use Rattle.monitor.specs.declared.Stop.TheVariants.{NoRoom, BrokenRule}
+use Rattle.monitor.specs.Monitor.{shortest_buffer, quiet, no_room, broken, requested, reply_of}
 
 module _ (s : State) (l g b f a : List ℕ) where
   pub when-short : ltb (length a) shortest_buffer ≡ true → no_room s l g b f a ≡ requested s l g b f a
