@@ -27,8 +27,8 @@ use frames::requests::AuthorityRequest;
 use links::{Graph, Lineage, Rooted};
 use numbers::{LINKS, PRINCIPALS, PUBLIC, Principal, TAGS, Tag};
 use outcomes::{
-    ListChange, Outcome, RowChange, done, grants_changed, links_changed, refused,
-    rows_changed, told,
+    ListChange, Outcome, RowChange, done, grants_changed, links_changed, refused, rows_changed,
+    told,
 };
 use sight::Sight;
 use tables::rows::Rank;

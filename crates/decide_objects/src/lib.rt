@@ -29,7 +29,10 @@ use tables::says::{held_in, is_locked, object_row_of, what_of};
 fn object_changed(answer: Answer, store: StoreChange, rows: RowChange) -> Outcome
     ensures { result ≡ object_changed answer store rows }
 {
-    Outcome { store, ..rows_changed(answer, rows) }
+    Outcome {
+        store,
+        ..rows_changed(answer, rows)
+    }
 }
 
 // "empty or unlocked"
