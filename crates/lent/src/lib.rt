@@ -74,13 +74,6 @@ pub fn place_of(s: &State, n: usize, x: u32) -> Option<usize>
     memory::place(&s.memory.pairs, n, x)
 }
 
-// A copy of all of it, for the check of 9.
-pub fn whole(s: &State) -> State
-    ensures { result ≡ s.now }
-{
-    *s
-}
-
 // How many rows the tables have and how many pairs the memory, which their types say: for a caller that reasons about
 // a state that lies behind a reference. Nothing is done.
 pub fn sized(s: &State)
@@ -144,12 +137,6 @@ pub fn note(s: &mut State, n: Note)
     s.memory.questions = n.questions;
     s.memory.hits = n.hits;
     memory::renew(&mut s.memory.pairs, n.pairs);
-}
-
-pub fn put_whole(s: &mut State, t: State)
-    ensures { s.new ≡ t }
-{
-    *s = t;
 }
 
 // "The host may clear the memory between requests; this leaves the counters."
