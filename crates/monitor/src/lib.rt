@@ -19,7 +19,7 @@ pub const ROOM: usize = 34;
 
 // What ends a request before its frame is looked at.
 #[derive(Clone, Copy)]
-enum Stop {
+pub enum Stop {
     NoRoom,
     BrokenRule,
 }
