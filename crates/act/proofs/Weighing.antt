@@ -5,13 +5,14 @@ use mathlib.Core.Bool.{Bool, true, false, cond, ◌&&◌, ◌||◌}
 use mathlib.Core.List.{List}
 use mathlib.Core.Logic.{⊎_elim}
 use Prim.Native.Nat.{ℕ}
-use lib.ListN.{length, take}
+use lib.ListN.{length}
+use Rattle.std.specs.Prelude.{Some, None}
 use Rattle.numbers.specs.Numbers.{most_remembered}
 use Rattle.numbers.proofs.Bools.{and_right, either}
 use Rattle.memory.specs.declared.Memory.{Memory}
 use Rattle.memory.specs.declared.Note.{Note}
 use Rattle.memory.specs.Remembered.{Fits, answered, emptied}
-use Rattle.memory.specs.Notes.{tally_of, place_in, noted, wiped, judged}
+use Rattle.memory.specs.Notes.{tally_of, noted, wiped, judged}
 use Rattle.memory.proofs.Asking.{judged-is, stays, empties}
 use Rattle.frames.specs.Requests.{request_of, well_formed}
 use Rattle.sight.specs.declared.Sight.{Sight}
@@ -19,7 +20,7 @@ use Rattle.prelude.specs.Prelude.{asks}
 use Rattle.outcomes.specs.declared.Outcome.{Outcome}
 use Rattle.act.specs.declared.Recalled.{Recalled}
 use Rattle.act.specs.Step.{passes, pair_asked, walked, checked_by, asks_one_by, asked_by, outcome_by, considered_by, removes, remembers}
-use Rattle.act.specs.Act.{recall_of, verdict_by, weighed_by, notes}
+use Rattle.act.specs.Act.{place_of, recall_of, verdict_by, weighed_by, notes}
 
 -- what is written after a removal
 pub notes-remember : (m : Memory) (o : Outcome) (n : Note) → noted m (notes o n) ≡ remembers o (noted m n)
@@ -44,7 +45,7 @@ module _ (s : Sight) (l g f : List ℕ) (m : Memory) (w : Fits m) (long : length
   looked e =
       let asking : asks s (request_of f) ≡ true = and_right (passes (checked_by s l g f)) (asks s (request_of f)) (and_right (well_formed f) (passes (checked_by s l g f) && asks s (request_of f)) e) in
       subst (λ (a : Bool).
-      let k = place_in (take (cond a m.held 0) m.pairs) pair in
+      let k = place_of m (cond a (Some pair) None) in
       ((judged (tally_of m) k pair walk).yes ≡ (answered m pair walk).yes) × (noted m (judged (tally_of m) k pair walk).note ≡ (answered m pair walk).memory))
       (sym asking) (judged-is m pair w long walk)
 

@@ -1,12 +1,12 @@
 -- A request that sees s, of a thread whose row is own: what it answers, what it changes in the lists, and what it writes into the state.
 -- Of the memory it knows the numbers, and the place of the pair that it asks about. Assumes nothing.
-use Rattle.std.specs.Prelude.{Bool, false, cond, ◌||◌, List, ℕ, length, take}
+use Rattle.std.specs.Prelude.{Bool, false, cond, ◌||◌, List, ℕ, length, take, Option, Some, None}
+use Rattle.links.specs.Links.{find_in}
 use Rattle.memory.specs.declared.Memory.{Memory}
 use Rattle.memory.specs.declared.Note.{Note}
-use Rattle.memory.specs.declared.Tally.{Tally}
 use Rattle.memory.specs.declared.Verdict.{Verdict}
 use Rattle.memory.specs.Remembered.{pair_of}
-use Rattle.memory.specs.Notes.{tally_of, place_in, as_is, wiped, judged}
+use Rattle.memory.specs.Notes.{tally_of, as_is, wiped, judged}
 use Rattle.tables.specs.declared.rows.ThreadRow.{ThreadRow}
 use Rattle.lent.specs.declared.Counts.{Counts}
 use Rattle.frames.specs.declared.requests.Request.{Request}
@@ -22,7 +22,6 @@ use Rattle.apply.specs.Writes.{row_writes}
 use Rattle.decide.specs.Decide.{decide}
 use Rattle.act.specs.declared.Acted.{Acted}
 use Rattle.act.specs.declared.Asking.{Asking}
-use Rattle.act.specs.declared.Question.{Question}
 use Rattle.act.specs.declared.Recalled.{Recalled}
 use Rattle.act.specs.declared.Weighed.{Weighed}
 use Rattle.act.specs.Step.{pair_asked, walked, asks_one_by, outcome_by, removes}
@@ -33,15 +32,18 @@ use Rattle.act.specs.Step.{pair_asked, walked, asks_one_by, outcome_by, removes}
 abbrev pub asking_of : List ℕ → Asking
 asking_of f = record { thread = thread_of f; row = (thread_of f).0; request = request_of f }
 
--- how many of the pairs held are looked through, and for which one: for none, where request r asks for no authority
-abbrev pub question_of : Sight → Tally → Request → Question
-question_of s t r = record { first = cond (asks s r) t.held 0; pair = pair_of s.caller.principal (tag_named r) }
+-- which pair the memory is asked about: none, where request r asks for no authority
+abbrev pub question_of : Sight → Request → Option ℕ
+question_of s r = cond (asks s r) (Some (pair_of s.caller.principal (tag_named r))) None
+
+-- where the pair that is asked about stands among those that m holds
+abbrev pub place_of : Memory → Option ℕ → Option ℕ
+place_of m (Some x) = find_in (take m.held m.pairs) x
+place_of m None = None
 
 -- what request r knows of the memory m
 abbrev pub recall_of : Memory → Sight → Request → Recalled
-recall_of m s r =
-    let q = question_of s (tally_of m) r in
-    record { tally = tally_of m; place = place_in (take q.first m.pairs) q.pair }
+recall_of m s r = record { tally = tally_of m; place = place_of m (question_of s r) }
 
 -- ---- what it comes to
 

@@ -7,7 +7,6 @@
 #![tactic(auto)]
 
 ghost use Rattle.std.specs.Prelude.{◌≡◌, ◌≤◌, length};
-ghost use Rattle.numbers.specs.Numbers.{most_remembered};
 ghost use Rattle.memory.specs.Notes.{as_is};
 ghost use Rattle.outcomes.specs.Outcomes.{refused};
 ghost use Rattle.answers.specs.Answers.{answer_bytes, front};
@@ -52,33 +51,18 @@ pub fn asking_of(frame: &[u8]) -> Asking
     }
 }
 
-// Which pair the memory is asked about, and among how many of its first: of a request that asks for no authority, none.
-#[derive(Clone, Copy)]
-pub struct Question {
-    pub first: usize,
-    pub pair: u32,
-}
-
-pub fn question_of(s: Sight, t: Tally, r: Request) -> Question
-    ensures { result ≡ question_of s t r }
+// Which pair the memory is asked about; none, where a request asks for no authority.
+pub fn question_of(s: Sight, r: Request) -> Option<u32>
+    ensures { result ≡ question_of s r }
 {
-    let caller = s.caller;
-    let p = caller.principal;
-    let pair = pair_of(p, tag_named(r));
-    if asks_authority(s, r) {
-        return Question {
-            first: t.held,
-            pair,
-        };
-    }
-    Question { first: 0, pair }
+    asks_authority(s, r).then_some(pair_of(s.caller.principal, tag_named(r)))
 }
 
-// What a request knows of the memory: its numbers, and the place of the pair that it asks about.
+// What a request knows of the memory: its numbers, and where the pair stands that it asks about.
 #[derive(Clone, Copy)]
 pub struct Recalled {
     pub tally: Tally,
-    pub place: usize,
+    pub place: Option<usize>,
 }
 
 // What a request comes to, and what its question leaves to write into the memory.
@@ -102,25 +86,23 @@ pub struct Acted {
 
 // Past 2, 3 and 4: the question, where there is one, and the kind's row.
 fn follow_row<'a>(s: Sight, m: Recalled, links: &'a [u32], grants: &'a [u32], r: Request) -> Weighed
-    requires { m.tally.size ≤ most_remembered }
     ensures { result ≡ row_weighed s links.now grants.now m r }
 {
     let t = m.tally;
-    if asks_authority(s, r) {
-        let caller = s.caller;
-        let p = caller.principal;
-        let lineage = s.lineage;
-        let pair = pair_of(p, tag_named(r));
-        let verdict = memory::ask(
-            t, m.place, pair, links, s.links, grants, s.grants, lineage, p,
-        );
-        let outcome = decide(s, links, grants, r, verdict.yes);
-        let note = verdict.note;
-        return Weighed { outcome, note };
+    let Some(pair) = question_of(s, r) else {
+        return Weighed {
+            outcome: decide(s, links, grants, r, false),
+            note: as_is(t),
+        };
+    };
+    let p = s.caller.principal;
+    let verdict = memory::ask(
+        t, m.place, pair, links, s.links, grants, s.grants, s.lineage, p,
+    );
+    Weighed {
+        outcome: decide(s, links, grants, r, verdict.yes),
+        note: verdict.note,
     }
-    let outcome = decide(s, links, grants, r, false);
-    let note = as_is(t);
-    Weighed { outcome, note }
 }
 
 // The whole of it: 1, 2, 3 and 4 in order, then the row. It changes nothing.
@@ -132,7 +114,6 @@ fn consider<'a>(
     grants: &'a [u32],
     frame: &'a [u8],
 ) -> Weighed
-    requires { m.tally.size ≤ most_remembered }
     ensures { result ≡ weighed_by s links.now grants.now m frame.now }
 {
     if !well_formed(frame) {
@@ -208,7 +189,7 @@ pub fn act<'a>(
     frame: &'a [u8],
     answer: &mut [u8],
 ) -> Acted
-    requires { (m.tally.size ≤ most_remembered) × (HasRoom (counts_in s) own store.old frame.now (weighed_by s links.now grants.now m frame.now).outcome × (34 ≤ length answer.old)) }
+    requires { HasRoom (counts_in s) own store.old frame.now (weighed_by s links.now grants.now m frame.now).outcome × (34 ≤ length answer.old) }
     ensures value { result ≡ acted s own m links.now grants.now store.old frame.now }
     ensures store_after { store.new ≡ apply_store (weighed_by s links.now grants.now m frame.now).outcome.store frame.now store.old }
     ensures answer_after { answer.new ≡ front (answer_bytes frame.now store.old (weighed_by s links.now grants.now m frame.now).outcome.answer) answer.old }

@@ -8,7 +8,8 @@ ghost use Rattle.std.specs.Prelude.{◌≡◌, get_or, length, take};
 ghost use Rattle.numbers.specs.Numbers.{most_threads, most_tags, most_objects, most_remembered};
 ghost use Rattle.tables.specs.Things.{no_thread, tag_at, object_at};
 ghost use Rattle.state.specs.Start.{cleared};
-ghost use Rattle.memory.specs.Notes.{tally_of, place_in};
+ghost use Rattle.links.specs.Links.{find_in};
+ghost use Rattle.memory.specs.Notes.{tally_of};
 ghost use Rattle.lent.specs.Lent.{counts_of, thread_put, tag_put, object_put, counts_put, note_put};
 
 use memory::{Note, Tally};
@@ -81,9 +82,9 @@ pub fn tally(s: &State) -> Tally
     }
 }
 
-// Where the pair x stands among the first n that are remembered; 64 where it does not.
-pub fn place_of(s: &State, n: usize, x: u32) -> usize
-    ensures { result ≡ place_in (take n s.now.memory.pairs) x }
+// Where the pair x stands among the first n that are remembered.
+pub fn place_of(s: &State, n: usize, x: u32) -> Option<usize>
+    ensures { result ≡ find_in (take n s.now.memory.pairs) x }
 {
     memory::place(&s.memory.pairs, n, x)
 }
@@ -170,7 +171,7 @@ pub fn note(s: &mut State, n: Note)
     s.memory.held = n.held;
     s.memory.questions = n.questions;
     s.memory.hits = n.hits;
-    memory::renew(&mut s.memory.pairs, n.place, n.pair, n.clear);
+    memory::renew(&mut s.memory.pairs, n.pairs);
 }
 
 pub fn put_whole(s: &mut State, t: State)

@@ -15,14 +15,19 @@ use Rattle.std.specs.Prelude.{Option, Some, None}
 use Rattle.links.specs.Links.{find_in}
 use Rattle.memory.specs.declared.Memory.{Memory}
 use Rattle.memory.specs.declared.Note.{Note}
-use Rattle.memory.specs.Remembered.{Fits, held_pairs, counted, remembered, emptied, answered}
-use Rattle.memory.specs.Notes.{tally_of, place_of, place_in, renewed, noted, as_is, wiped, counting, brought, judged}
-use Rattle.memory.proofs.NoteLaws.{renewed-front}
+use Rattle.memory.specs.declared.PairChange.TheVariants.{Keep, Front}
+use Rattle.memory.specs.Remembered.{Fits, held_pairs, counted, remembered, emptied, answered, slid}
+use Rattle.memory.specs.Notes.{tally_of, renewed, noted, as_is, wiped, counting, brought, judged}
 use Rattle.memory.proofs.Front.{with_front, found_at, moved, added, pushed, nothing}
 
 -- counting changes no pair
 pub counted-fits : (m : Memory) (held : Bool) → Fits m → Fits (counted m held)
 counted-fits m held w = record { within = w.within; small = w.small }
+
+-- a pair comes to the front from a place that is there
+pub renewed-front : (k x : ℕ) (p : List ℕ) → k < length p → renewed (Front k x) p ≡ slid k x p
+unfolding renewed
+renewed-front k x p l = ap (λ (b : Bool). cond b (slid k x p) p) (lt-ltb k (length p) l)
 
 -- ---- a pair that goes to the front, in a memory whose places are all there
 
@@ -31,46 +36,46 @@ module _ (m : Memory) (x : ℕ) (w : Fits m) (long : length m.pairs ≡ 64) wher
   room = omega (arith, w.small)
 
   -- it comes from place k
-  from_place : (held hits k : ℕ) → k < 64
-      → noted m (counting (tally_of m) held hits k x) ≡ with_front (record { size = m.size; held = m.held; pairs = m.pairs; questions = one_more m.questions; hits = hits }) held k x
+  from_place : (held hits k : ℕ) → k < length m.pairs
+      → noted m (counting (tally_of m) held hits (Front k x)) ≡ with_front (record { size = m.size; held = m.held; pairs = m.pairs; questions = one_more m.questions; hits = hits }) held k x
   from_place held hits k h = ap (λ (p : List ℕ). record { size = m.size; held = held; pairs = p; questions = one_more m.questions; hits = hits }) (renewed-front k x m.pairs h)
 
   -- it is held at k
-  held_at : (k : ℕ) → find_in (held_pairs m) x ≡ Some k → (k < 64) × (noted m (counting (tally_of m) m.held (one_more m.hits) k x) ≡ remembered (counted m true) x)
+  held_at : (k : ℕ) → find_in (held_pairs m) x ≡ Some k → noted m (brought (tally_of m) (Some k) x) ≡ remembered (counted m true) x
   held_at k e =
-      let inside : k < 64 = omega (arith, (found_at (held_pairs m) x k e).0, length-take m.held m.pairs) in
-      (inside, from_place m.held (one_more m.hits) k inside ∙ moved (counted m true) x w.within room k e)
+      let inside : k < length m.pairs = omega (arith, (found_at (held_pairs m) x k e).0, length-take m.held m.pairs) in
+      from_place m.held (one_more m.hits) k inside ∙ moved (counted m true) x w.within room k e
 
   -- it is not held
   module _ (none : find_in (held_pairs m) x ≡ None) where
-    not-held : noted m (brought (tally_of m) 64 x) ≡ remembered (counted m false) x
+    not-held : noted m (brought (tally_of m) None x) ≡ remembered (counted m false) x
     unfolding renewed
     not-held =
         ⊎_elim
-        (λ t. ap (noted m) (sym (hit _ t refl)) ∙ from_place (m.held + 1) m.hits m.held (omega (arith, ltb-true m.held m.size t, w.small)) ∙ added (counted m false) x w.within room none (ltb-true m.held m.size t))
+        (λ t. ap (noted m) (sym (hit _ t refl)) ∙ from_place (m.held + 1) m.hits m.held (omega (arith, ltb-true m.held m.size t, room)) ∙ added (counted m false) x w.within room none (ltb-true m.held m.size t))
         (λ t. ap (noted m) (sym (skip _ t refl)) ∙ full (ltb-false m.held m.size t))
         (either (ltb m.held m.size))
       where
-        full : m.size ≤ m.held → noted m (cond (ltb m.held 1) (counting (tally_of m) m.held m.hits 64 x) (counting (tally_of m) m.held m.hits (m.held - 1) x)) ≡ remembered (counted m false) x
+        full : m.size ≤ m.held → noted m (cond (ltb m.held 1) (counting (tally_of m) m.held m.hits Keep) (counting (tally_of m) m.held m.hits (Front (m.held - 1) x))) ≡ remembered (counted m false) x
         full h =
             ⊎_elim
             (λ t. ap (noted m) (sym (hit _ t refl)) ∙ nothing (counted m false) x w.within room h (ltb-true m.held 1 t))
             (λ t.
             let g : 1 ≤ m.held = ltb-false m.held 1 t in
-            ap (noted m) (sym (skip _ t refl)) ∙ from_place m.held m.hits (m.held - 1) (omega (arith, w.within, w.small)) ∙ pushed (counted m false) x w.within room none h g)
+            ap (noted m) (sym (skip _ t refl)) ∙ from_place m.held m.hits (m.held - 1) (omega (arith, w.within, room, g)) ∙ pushed (counted m false) x w.within room none h g)
             (either (ltb m.held 1))
 
   -- ---- the ends of a question
 
-  abbrev Same : ℕ → Bool → Type 0
+  abbrev Same : Option ℕ → Bool → Type 0
   Same k walk = ((judged (tally_of m) k x walk).yes ≡ (answered m x walk).yes) × (noted m (judged (tally_of m) k x walk).note ≡ (answered m x walk).memory)
 
-  pub judged-is : (walk : Bool) → Same (place_in (held_pairs m) x) walk
+  pub judged-is : (walk : Bool) → Same (find_in (held_pairs m) x) walk
   unfolding renewed
   judged-is walk = ends (find_in (held_pairs m) x) refl walk
     where
-      ends : (f : Option ℕ) → find_in (held_pairs m) x ≡ f → (b : Bool) → Same (place_of f) b
-      ends (Some k) e b = let h = held_at k e in rw (e, lt-ltb k 64 h.0) (refl, h.1)
+      ends : (f : Option ℕ) → find_in (held_pairs m) x ≡ f → (b : Bool) → Same f b
+      ends (Some k) e b = rw e (refl, held_at k e)
       ends None e true = rw e (refl, not-held e)
       ends None e false = rw e (refl, refl)
 

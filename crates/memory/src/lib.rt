@@ -5,13 +5,12 @@
 // a rule of 9, and is not tested here.
 #![tactic(auto)]
 
-ghost use Rattle.std.specs.Prelude.{◌≡◌, ◌≤◌, ◌<◌, length, take};
-ghost use Rattle.numbers.specs.Numbers.{most_remembered};
+ghost use Rattle.std.specs.Prelude.{◌≡◌, ◌<◌, length, take};
 ghost use Rattle.links.specs.declared.lists.Graph.TheVariants.{Principals};
-ghost use Rattle.links.specs.Links.{links_in};
+ghost use Rattle.links.specs.Links.{find_in, links_in};
 ghost use Rattle.links.specs.Authority.{authoritative};
 ghost use Rattle.memory.specs.Remembered.{pair_of, slid};
-ghost use Rattle.memory.specs.Notes.{place_in, renewed, as_is, wiped, counting, brought, judged};
+ghost use Rattle.memory.specs.Notes.{renewed, as_is, wiped, counting, brought, judged};
 
 use links::Lineage;
 use numbers::{Principal, Tag, one_more};
@@ -27,9 +26,6 @@ pub struct Memory {
     pub hits: u32,
 }
 
-// How many pairs there can be; as a place, none of them.
-const PAIRS: usize = 64;
-
 // The numbers of a memory beside its pairs.
 #[derive(Clone, Copy)]
 pub struct Tally {
@@ -39,16 +35,21 @@ pub struct Tally {
     pub hits: u32,
 }
 
-// What is to be written into a memory: its numbers, and the pair that comes to the front from this place, or that all
-// pairs are cleared. From a place past the last none comes.
+// What becomes of the pairs: they stay, or a pair "goes to the front" from its place, or all are cleared.
+#[derive(Clone, Copy)]
+pub enum PairChange {
+    Keep,
+    Front(usize, u32),
+    Clear,
+}
+
+// What is to be written into a memory: its numbers, and what becomes of its pairs.
 #[derive(Clone, Copy)]
 pub struct Note {
     pub held: usize,
     pub questions: u32,
     pub hits: u32,
-    pub place: usize,
-    pub pair: u32,
-    pub clear: bool,
+    pub pairs: PairChange,
 }
 
 // What a question gives: the yes or no, and what it leaves to write.
@@ -67,23 +68,26 @@ pub fn pair_of(p: Principal, t: Tag) -> u32
 
 // ---- the pairs, where they lie
 
-// Where x stands among the first n pairs; past the last, where it does not.
-pub fn place(pairs: &[u32; 64], n: usize, x: u32) -> usize
-    ensures { result ≡ place_in (take n pairs.now) x }
+// Where x stands among the first n pairs.
+pub fn place(pairs: &[u32; 64], n: usize, x: u32) -> Option<usize>
+    ensures { result ≡ find_in (take n pairs.now) x }
 {
-    links::find(pairs, n, x).unwrap_or(PAIRS)
+    links::find(pairs, n, x)
 }
 
-// The pairs are cleared, or x comes to the front from its place; from a place past the last none does.
-pub fn renew(pairs: &mut [u32; 64], place: usize, x: u32, clear: bool)
-    ensures { pairs.new ≡ renewed place x clear pairs.old }
+// The change is made. From a place past the last no pair comes to the front.
+#[tactic(auto, unfolding(crate::specs::Notes::renewed))]
+pub fn renew(pairs: &mut [u32; 64], change: PairChange)
+    ensures { pairs.new ≡ renewed change pairs.old }
 {
-    if clear {
-        *pairs = [0; 64];
-        return;
-    }
-    if place < PAIRS {
-        slide(pairs, place, x);
+    match change {
+        PairChange::Keep => {}
+        PairChange::Front(k, x) => {
+            if k < pairs.len() {
+                slide(pairs, k, x);
+            }
+        }
+        PairChange::Clear => *pairs = [0; 64],
     }
 }
 
@@ -92,14 +96,8 @@ fn slide(pairs: &mut [u32], k: usize, x: u32)
     requires { k < length pairs.old }
     ensures { pairs.new ≡ slid k x pairs.old }
 {
-    let mut last = x;
-    let mut i = 0;
-    while i <= k {
-        let next = pairs[i];
-        pairs[i] = last;
-        last = next;
-        i += 1;
-    }
+    pairs[..=k].rotate_right(1);
+    pairs[0] = x;
 }
 
 // ---- what a question leaves to write
@@ -112,9 +110,7 @@ pub fn as_is(t: Tally) -> Note
         held: t.held,
         questions: t.questions,
         hits: t.hits,
-        place: PAIRS,
-        pair: 0,
-        clear: false,
+        pairs: PairChange::Keep,
     }
 }
 
@@ -124,11 +120,8 @@ pub fn wiped(n: Note) -> Note
 {
     Note {
         held: 0,
-        questions: n.questions,
-        hits: n.hits,
-        place: PAIRS,
-        pair: 0,
-        clear: true,
+        pairs: PairChange::Clear,
+        ..n
     }
 }
 
@@ -139,44 +132,37 @@ pub fn forgotten(t: Tally) -> Note
     wiped(as_is(t))
 }
 
-// A question is counted; so many pairs are held then, with so many hits, and this pair comes to the front from here.
-fn counted(t: Tally, held: usize, hits: u32, place: usize, pair: u32) -> Note
-    ensures { result ≡ counting t held hits place pair }
+// A question is counted; so many pairs are held then, with so many hits, and this becomes of the pairs.
+fn counted(t: Tally, held: usize, hits: u32, pairs: PairChange) -> Note
+    ensures { result ≡ counting t held hits pairs }
 {
     Note {
         held,
         questions: one_more(t.questions),
         hits,
-        place,
-        pair,
-        clear: false,
+        pairs,
     }
 }
 
 // "On yes the pair goes to the front and anything beyond M falls off": from its own place, where it is held; else from
 // behind the last pair, and where there is no room, from the last one's. With M = 0 nothing is held.
-fn brought(t: Tally, place: usize, pair: u32) -> Note
-    requires { t.size ≤ most_remembered }
+fn brought(t: Tally, place: Option<usize>, pair: u32) -> Note
     ensures { result ≡ brought t place pair }
 {
     let held = t.held;
-    if place < PAIRS {
-        return counted(t, held, one_more(t.hits), place, pair);
+    match place {
+        Some(k) => counted(t, held, one_more(t.hits), PairChange::Front(k, pair)),
+        None if held < t.size => counted(t, held + 1, t.hits, PairChange::Front(held, pair)),
+        None if held < 1 => counted(t, held, t.hits, PairChange::Keep),
+        None => counted(t, held, t.hits, PairChange::Front(held - 1, pair)),
     }
-    if held < t.size {
-        return counted(t, held + 1, t.hits, held, pair);
-    }
-    if held < 1 {
-        return counted(t, held, t.hits, PAIRS, pair);
-    }
-    counted(t, held, t.hits, held - 1, pair)
 }
 
 // "A question .. is asked by 06, 09, 0B and 0C, once, when the authority check is reached. If the pair is
 // held it is a hit, and the yes is the memory's, with no walk; otherwise the walk answers."
 pub fn ask<'a>(
     t: Tally,
-    place: usize,
+    place: Option<usize>,
     pair: u32,
     links: &'a [u32],
     n: usize,
@@ -185,17 +171,13 @@ pub fn ask<'a>(
     x: Lineage,
     p: Principal,
 ) -> Verdict
-    requires { t.size ≤ most_remembered }
     ensures { result ≡ judged t place pair (authoritative (links_in links.now n Principals) tag_links.now k x p) }
 {
-    if place < PAIRS {
-        let note = brought(t, place, pair);
-        return Verdict { yes: true, note };
-    }
-    if !links::authoritative(links, n, tag_links, k, x, p) {
-        let note = counted(t, t.held, t.hits, PAIRS, pair);
-        return Verdict { yes: false, note };
-    }
-    let note = brought(t, place, pair);
-    Verdict { yes: true, note }
+    let yes = place.is_some() || links::authoritative(links, n, tag_links, k, x, p);
+    let note = if yes {
+        brought(t, place, pair)
+    } else {
+        counted(t, t.held, t.hits, PairChange::Keep)
+    };
+    Verdict { yes, note }
 }

@@ -33,13 +33,12 @@ pub struct Stepped {
     pub grants: ListChange,
 }
 
-// What a request knows of the memory: only where it asks for authority are the pairs looked through.
+// What a request knows of the memory: only where it asks for authority are the pairs that are held looked through.
 fn recall(s: &State, sight: Sight, r: Request) -> Recalled
     ensures { result ≡ recall_of s.now.memory sight r }
 {
     let tally = tally(s);
-    let q = question_of(sight, tally, r);
-    let place = place_of(s, q.first, q.pair);
+    let place = question_of(sight, r).and_then(|pair| place_of(s, tally.held, pair));
     Recalled { tally, place }
 }
 

@@ -22,7 +22,7 @@ returns-clause-value c =
     let a = c.args in
     let o : Outcome = c.consider-c.result.outcome in
     let e = c.consider-c.ensures in
-    let room : HasRoom (counts_in a.s) a.own a.store.now a.frame.now o = subst (λ (k : Weighed). HasRoom (counts_in a.s) a.own a.store.now a.frame.now k.outcome) (sym e) c.requires.1.0 in
+    let room : HasRoom (counts_in a.s) a.own a.store.now a.frame.now o = subst (λ (k : Weighed). HasRoom (counts_in a.s) a.own a.store.now a.frame.now k.outcome) (sym e) c.requires.0 in
     let n = c.length_of-written.ensures ∙ sym (answer-length a.frame.now a.store.now o.answer room.answer) in
     let w = c.writes_of-writes.ensures ∙ ap (λ (x : ℕ). writes_of a.s a.own x o) c.byte_at.ensures in
     same-told o c.status_of-status.ensures n w c.notes-note.ensures ∙ ap (λ (x : Weighed). acted_on a.s a.own a.store.now a.frame.now x) e

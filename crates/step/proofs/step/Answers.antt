@@ -1,7 +1,6 @@
 -- What the request comes to, by what is read of the state, is what it is defined to come to (`act`, proofs/Stepping): a law for each
 -- of the step's clauses. Assumes nothing.
-use Rattle.std.proofs.Common.{◌≡◌, ◌≤◌, List, ℕ, length, sym, ap, subst, ◌∙◌}
-use Rattle.numbers.specs.Numbers.{most_remembered}
+use Rattle.std.proofs.Common.{◌≤◌, List, ℕ, length, sym, ap, subst, ◌∙◌}
 use Rattle.memory.specs.Notes.{noted}
 use Rattle.answers.specs.Answers.{status_of, answer_bytes, front}
 use Rattle.outcomes.specs.declared.Outcome.{Outcome}
@@ -13,14 +12,12 @@ use Rattle.act.specs.World.{HasRoom}
 use Rattle.act.proofs.Stepping as stepping
 use Rattle.step.specs.declared.Seen.{Seen}
 use Rattle.step.specs.declared.Stepped.{Stepped}
-use Rattle.step.specs.Look.{seen_of}
 use Rattle.step.proofs.step.Goals as goal
 
 -- what `act` asks of what is read
 abbrev Asks : List ℕ → List ℕ → List ℕ → List ℕ → List ℕ → Seen → Type 0
 Asks l g b f a y =
-    (y.recalled.tally.size ≤ most_remembered)
-    × (HasRoom (counts_in y.sight) y.own b f (weighed_by y.sight l g y.recalled f).outcome × (34 ≤ length a))
+    HasRoom (counts_in y.sight) y.own b f (weighed_by y.sight l g y.recalled f).outcome × (34 ≤ length a)
 
 abbrev told : Acted → Stepped
 told z = record { status = z.status; written = z.written; links = z.links; grants = z.grants }
@@ -30,9 +27,8 @@ act-acted-requires c =
     let a = c.args in
     let s = a.s.now in
     let n = c.sized.ensures in
-    let fits = stepping.fits s a.links.now a.grants.now a.store.now a.frame.now c.requires.0 n.threads n.kinds n.objects n.pairs in
     let room = stepping.room s a.links.now a.grants.now a.store.now a.frame.now c.requires.0 n.threads n.kinds n.objects n.pairs in
-    subst (Asks a.links.now a.grants.now a.store.now a.frame.now a.answer.now) (sym c.look-seen.ensures) (fits.small, (room, c.requires.1))
+    subst (Asks a.links.now a.grants.now a.store.now a.frame.now a.answer.now) (sym c.look-seen.ensures) (room, c.requires.1)
 
 pub returns-clause-value : goal.returns-clause-value
 returns-clause-value c =
