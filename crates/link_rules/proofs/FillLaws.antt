@@ -10,6 +10,7 @@ use lib.Bits.{bit_and}
 use lib.Dec.{eqb, lit<}
 use lib.ListN.{length, get_or, take}
 use lib.Seq.{get_or-take, length-take-le}
+use Rattle.std.proofs.Math.Bool.{and_comm}
 use Rattle.numbers.specs.Below.{all_below, any_below}
 use Rattle.numbers.specs.Sets.{contains}
 use Rattle.numbers.proofs.Bools.{and_left, and_right, and_both, both_ways}
@@ -79,10 +80,11 @@ module _ (l : List ℕ) (n i tags : ℕ) (placed : Placed l n tags) (h : i < n) 
       (eq-eqb (row_of (at l j)) (row_of (at l i)) (ap row_of same)) (eq-eqb (to_in (at l j)) (to_in (at l i)) (ap to_in same))))
 
   -- so the code's test of the bit is the rule
-  pub doubled-next : (ok : Bool) → ok ≡ none_doubled l i → (eqb (bit_and (get_or rows (row_of (at l i)) 0 / 2 ^ to_in (at l i)) 1) 0 && ok) ≡ none_doubled l (i + 1)
+  pub doubled-next : (ok : Bool) → ok ≡ none_doubled l i → (ok && eqb (bit_and (get_or rows (row_of (at l i)) 0 / 2 ^ to_in (at l i)) 1) 0) ≡ none_doubled l (i + 1)
   unfolding none_doubled
   doubled-next ok e =
-      ap₂ ◌&&◌ (contains-test-not (get_or rows (row_of (at l i)) 0) (to_in (at l i)) ∙ ap not again) e
+      and_comm ok (eqb (bit_and (get_or rows (row_of (at l i)) 0 / 2 ^ to_in (at l i)) 1) 0)
+      ∙ ap₂ ◌&&◌ (contains-test-not (get_or rows (row_of (at l i)) 0) (to_in (at l i)) ∙ ap not again) e
       ∙ sym (all-next i (λ j. not (any_below j (λ k. eqb (at l k) (at l j)))))
 
 -- ---- what filled rows say of the list

@@ -5,7 +5,7 @@ use mathlib.Core.Bool.{Bool, true, false, not, cond, ◌&&◌, and-true, and-fal
 use mathlib.Core.List.{List, ◌∷◌}
 use mathlib.Core.Logic.{⊎_elim}
 use Prim.Native.Nat.{ℕ, zero, suc, ◌-◌, ◌*◌, ◌%◌, ◌^◌, ◌≤◌, ◌<◌, zero-le}
-use native.Mathlib.Nat.{eq-or-lt_of_le, le_of_suc-le-suc, le_refl, le_trans, lt_of_le_of_lt, lt-suc_self, not-suc-le-zero}
+use native.Mathlib.Nat.{eq-or-lt_of_le, le_of_suc-le-suc, le_trans, lt_of_le_of_lt, lt-suc_self, not-suc-le-zero}
 use native.Mathlib.Omega.{arith}
 use borrow.Author.Tests.{eqb-true, eqb-false, eq-eqb, ne_eqb}
 use lib.Arith.{lt_of_le-ne}
@@ -20,7 +20,7 @@ use Rattle.numbers.proofs.Below.{any-is, count-lt}
 use Rattle.numbers.proofs.Sets.{contains-and, contains-above, contains-set_of, contains-take, set_of-lt, lowest}
 use Rattle.links.specs.Paths.{Link, joins, Path, here, along, leads}
 use Rattle.links.specs.Cycles.{NoCycle, no_cycle}
-use Rattle.link_rules.specs.Rows.{row, Leaving, links_to, links_up_to, row_links, Endless, KeepsEndless, Swept, Stripped}
+use Rattle.link_rules.specs.Rows.{row, Leaving, links_to, links_up_to, row_links, Endless, KeepsEndless, Stripped}
 use Rattle.links.proofs.PathLaws.{joins-head, joins-tail, joins-cases, path-joined, path-one, leads-is}
 use Rattle.links.proofs.ListLaws.{joins-append}
 use Rattle.links.proofs.CycleLaws.{no_cycle-is}
@@ -121,15 +121,6 @@ module _ (rows : List ℕ) (a alive : ℕ) (fits : alive < 2 ^ 64) where
     pub looked :
         s ≡ alive → (p : ℕ) → contains alive p ≡ true → contains rest p ≡ false → (q : ℕ) × (contains (row rows a p) q ≡ true) × (contains alive q ≡ true)
 
-  pub sweeping-start : Sweeping alive alive
-  sweeping-start = record {
-    fewer = le_refl alive;
-    rest-fits = fits;
-    ahead = λ p e. e;
-    kept = λ u f g p e. g p e;
-    looked = λ same p e out. absurd (never e out);
-  }
-
   module _ (s rest p : ℕ) (w : Sweeping s rest) (h : p < 64) (there : contains rest p ≡ true) where
     s-fits : s < 2 ^ 64
     s-fits = lt_of_le_of_lt w.fewer fits
@@ -174,13 +165,6 @@ module _ (rows : List ℕ) (a alive : ℕ) (fits : alive < 2 ^ 64) where
             let z = count_trailing_zeros 64 both in
             let e = sym (contains-and (row rows a p) s z) ∙ found.1 in
             (z, and_left (contains (row rows a p) z) (contains s z) e, subst (λ (y : ℕ). contains y z ≡ true) same (and_right (contains (row rows a p) z) (contains s z) e))
-
-  pub sweeping-end : (s rest : ℕ) → Sweeping s rest → rest ≡ 0 → Swept rows a alive s
-  sweeping-end s rest w done = record {
-    fewer = w.fewer;
-    kept = w.kept;
-    calm = λ same p e. w.looked same p e (ap (λ (x : ℕ). contains x p) done ∙ contains-above 0 p (pow_pos p));
-  }
 
 -- ---- what is left goes round
 

@@ -11,9 +11,9 @@ fn one_of(set: u64, down: bool) -> u32
     ensures { (result < 64) × (contains set result ≡ true) }
 {
     if down {
-        63 - u64::leading_zeros(set)
+        63 - set.leading_zeros()
     } else {
-        u64::trailing_zeros(set)
+        set.trailing_zeros()
     }
 }
 
@@ -27,9 +27,9 @@ fn sweep(rows: &[u64], at: usize, alive: u64, down: bool) -> u64
     while 0 < rest {
         let p = one_of(rest, down);
         if rows[at + p as usize] & s == 0 {
-            s = s & !(1 << p);
+            s &= !(1 << p);
         }
-        rest = rest & !(1 << p);
+        rest &= !(1 << p);
     }
     s
 }

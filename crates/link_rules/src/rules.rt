@@ -15,14 +15,9 @@ pub fn all_made(links: &[u32], n: usize, tags: u32, principals: u32) -> bool
     requires { n ≤ length links.now }
     ensures { result ≡ all_made links.now n tags principals }
 {
-    let mut ok = true;
-    let mut i = 0;
-    while i < n {
-        let x = links[i];
-        ok = ((x / 65536 < tags) & ((x / 256 % 256 < principals) & (x % 256 < principals))) & ok;
-        i += 1;
-    }
-    ok
+    links[..n].iter().fold(true, |ok, x| {
+        ok & (x / 65536 < tags) & (x / 256 % 256 < principals) & (x % 256 < principals)
+    })
 }
 
 // "A link to the public": the first n have none.
@@ -30,13 +25,7 @@ pub fn none_to_public(links: &[u32], n: usize) -> bool
     requires { n ≤ length links.now }
     ensures { result ≡ none_to_public links.now n }
 {
-    let mut ok = true;
-    let mut i = 0;
-    while i < n {
-        ok = (links[i] % 256 != 0) & ok;
-        i += 1;
-    }
-    ok
+    links[..n].iter().fold(true, |ok, x| ok & (x % 256 != 0))
 }
 
 // Fills empty rows with the first n links, and says whether none stands twice.
@@ -48,19 +37,14 @@ fn fill(links: &[u32], n: usize, rows: &mut [u64], starts: &mut [u64]) -> bool
     ensures filled_2 { Filled links.now n rows.new starts.new }
 {
     let mut ok = true;
-    let mut i = 0;
-    while i < n {
-        let x = links[i];
+    for x in &links[..n] {
         let t = (x / 65536) as usize;
         let p = x / 256 % 256;
         let q = x % 256;
         let k = t * 64 + p as usize;
-        let row = rows[k];
-        ok = ((row >> q) & 1 == 0) & ok;
-        rows[k] = row | (1 << q);
-        let s = starts[t];
-        starts[t] = s | (1 << p);
-        i += 1;
+        ok &= (rows[k] >> q) & 1 == 0;
+        rows[k] |= 1 << q;
+        starts[t] |= 1 << p;
     }
     ok
 }
@@ -76,19 +60,12 @@ pub fn none_doubled(list: &[u32], n: usize) -> bool
 }
 
 // "A cycle": the rows of the first tags hold none.
-fn none_cyclic<'a>(rows: &'a [u64], starts: &'a [u64], tags: usize) -> bool
+fn none_cyclic(rows: &[u64], starts: &[u64], tags: usize) -> bool
     requires tags_in_bounds { (tags ≤ length starts.now) × (length rows.now ≡ length starts.now * 64) }
     requires by_index { (t : ℕ) → t < tags → Leaving rows.now (t * 64) (get_or starts.now t 0) }
     ensures { result ≡ all_below tags (λ t. no_cycle (row_links rows.now (t * 64))) }
 {
-    let mut ok = true;
-    let mut t = 0;
-    while t < tags {
-        let none = no_cycle(rows, t * 64, starts[t]);
-        ok = none & ok;
-        t += 1;
-    }
-    ok
+    (0..tags).fold(true, |ok, t| ok & no_cycle(rows, t * 64, starts[t]))
 }
 
 // Neither a cycle nor a doubled link among the first n, with empty rows to fill.
@@ -123,23 +100,32 @@ fn hold(
     requires filled { Filled links.now 0 rows.old starts.old }
     ensures { result ≡ links_hold links.now n tags principals }
 {
-    if !in_limits(links.len(), n, tags, principals) {
-        return false;
-    }
-    if !all_made(links, n, tags, principals) {
-        return false;
-    }
-    let sound = plain(links, n, rows, starts, tags as usize);
-    sound & none_to_public(links, n)
+    in_limits(links.len(), n, tags, principals)
+        && all_made(links, n, tags, principals)
+        && plain(links, n, rows, starts, tags as usize)
+        && none_to_public(links, n)
+}
+
+// The same, with rows for so many tags.
+fn hold_in<const ROWS: usize, const ROOMS: usize>(
+    links: &[u32],
+    n: usize,
+    tags: u32,
+    principals: u32,
+) -> bool
+    requires rooms { (ROWS ≡ ROOMS * 64) × (ROOMS ≤ 64) × (tags ≤ 64 → tags ≤ ROOMS) }
+    ensures { result ≡ links_hold links.now n tags principals }
+{
+    let mut rows = [0u64; ROWS];
+    let mut starts = [0u64; ROOMS];
+    hold(links, n, &mut rows, &mut starts, tags, principals)
 }
 
 // The list of principal links obeys every rule of 9 that speaks of it.
 pub fn principal_links_hold(links: &[u32], n: usize, principals: u32) -> bool
     ensures { result ≡ links_hold links.now n 1 principals }
 {
-    let mut rows = [0u64; 64];
-    let mut starts = [0u64; 1];
-    hold(links, n, &mut rows, &mut starts, 1, principals)
+    hold_in::<64, 1>(links, n, 1, principals)
 }
 
 // And that of the tag links. Few tags need few rows, which are sooner cleared.
@@ -147,11 +133,8 @@ pub fn tag_links_hold(links: &[u32], n: usize, tags: u32, principals: u32) -> bo
     ensures { result ≡ links_hold links.now n tags principals }
 {
     if tags <= 8 {
-        let mut rows = [0u64; 512];
-        let mut starts = [0u64; 8];
-        return hold(links, n, &mut rows, &mut starts, tags, principals);
+        hold_in::<512, 8>(links, n, tags, principals)
+    } else {
+        hold_in::<4096, 64>(links, n, tags, principals)
     }
-    let mut rows = [0u64; 4096];
-    let mut starts = [0u64; 64];
-    hold(links, n, &mut rows, &mut starts, tags, principals)
 }

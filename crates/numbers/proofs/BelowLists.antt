@@ -5,15 +5,17 @@ use mathlib.Core.Bool.{Bool, true, ◌&&◌, ◌||◌}
 use mathlib.Core.List.{List, [], ◌∷◌}
 use mathlib.Core.Logic.{⊎_elim}
 use Prim.Native.Nat.{ℕ, zero, suc, ◌+◌, ◌-◌, ◌≤◌}
+use native.Mathlib.Nat.{zero-add}
 use native.Mathlib.Numerals.{add-one}
 use native.Mathlib.Omega.{arith}
 use borrow.Author.Tests.{ltb-true, ltb-false}
 use lib.Dec.{ltb}
 use lib.ListN.{length, get_or, take, drop}
-use Rattle.std.specs.List.{list_all, fold}
+use Rattle.std.specs.List.{list_all, fold, range_with_len}
 use Rattle.std.proofs.Math.Bool.{and_comm, and-true, and_assoc}
 use Rattle.std.proofs.lemmas.List.{take_all, get_or-drop, length-drop}
 use Rattle.std.proofs.lemmas.List.Folds.{list_all_more}
+use Rattle.std.proofs.lemmas.List.FromFn.{length-range_with_len, get_or-range_with_len}
 use Rattle.numbers.specs.Below.{all_below}
 use Rattle.numbers.proofs.Below.{all_same, all-each, each_all}
 use Rattle.numbers.proofs.Bools.{either, both_ways, or_left, or_right, or_elim}
@@ -72,3 +74,9 @@ module _ {A : Type 0} (f : A → Bool) where
 
   pub fold_all : (l : List A) → fold (λ ok x. ok && f x) true l ≡ list_all f l
   fold_all l = fold_from l true
+
+-- of the numbers below n, as a range gives them
+pub all_range : (f : ℕ → Bool) (n : ℕ) → list_all f (range_with_len 0 n) ≡ all_below n f
+all_range f n =
+    all_rows f 0 (range_with_len 0 n) n (length-range_with_len 0 n)
+    ∙ all_same n (λ i. f (get_or (range_with_len 0 n) i 0)) f (λ i h. ap f (get_or-range_with_len 0 n i 0 h ∙ zero-add i))

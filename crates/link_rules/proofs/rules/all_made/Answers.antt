@@ -1,25 +1,20 @@
--- `link_rules::rules::all_made` meets its contract: the loop has tested the links passed. Assumes nothing.
-use mathlib.Core.Path.{◌≡◌, refl, sym, ap, ◌∙◌}
-use mathlib.Core.Bool.{Bool, ◌&&◌}
-use Prim.Native.Nat.{ℕ}
-use native.Mathlib.Omega.{arith}
-use Rattle.numbers.specs.Below.{all_below}
-use Rattle.numbers.proofs.Below.{all-next}
-use Rattle.link_rules.specs.LinkRules.{all_made, made}
+-- `link_rules::rules::all_made` meets its contract: the fold is the test of each place. Assumes nothing.
+use Rattle.std.proofs.Common.{rules, ◌∙◌, ◌&&◌, Bool, true, ℕ, take, ltb}
+use borrow.Author.Tests.{tests}
+use Rattle.std.proofs.Math.Bool.{and_assoc}
+use Rattle.std.proofs.lemmas.Iterator.{YieldsList-from_slice}
+use Rattle.std.proofs.lemmas.Iterator.Consumers.{fold_from_yields_List}
+use Rattle.numbers.proofs.BelowLists.{all_first, fold_all}
+use Rattle.link_rules.specs.LinkRules.{all_made, tag_in, from_in, to_in}
 use Rattle.link_rules.proofs.rules.all_made.Goals as goal
 
-pub loop-i-init : goal.loop-i-init
-unfolding all_made all_below
-loop-i-init c = (omega arith, refl)
-
-pub loop-i-preserved : goal.loop-i-preserved
-unfolding all_made all_below
-loop-i-preserved c = let a = c.args in
-    let i = c.loop-i.i in
-    let f = made a.links.now a.tags a.principals in
-    (omega arith, ap (λ (b : Bool). f i && b) c.loop-i.invariant.1 ∙ sym (all-next i f))
+-- the parts of a link's number are made
+abbrev test : ℕ → ℕ → ℕ → Bool
+test tags principals x = ltb (tag_in x) tags && (ltb (from_in x) principals && ltb (to_in x) principals)
 
 pub returns : goal.returns
-unfolding all_made all_below
+unfolding all_made
 returns c = let a = c.args in
-    c.loop-i.invariant.1 ∙ ap (λ (k : ℕ). all_below k (made a.links.now a.tags a.principals)) (let e : c.loop-i.i ≡ a.n = omega arith in e)
+    let xs = take a.n a.links.now in
+    fold_from_yields_List _ (λ ok x. ok && test a.tags a.principals x) true _ c.fold.ensures.ran (YieldsList-from_slice xs cc) (λ b x r q k. search (rules, tests, and_assoc))
+    ∙ fold_all (test a.tags a.principals) xs ∙ all_first (test a.tags a.principals) 0 a.links.now a.n c.requires

@@ -1,15 +1,20 @@
--- `link_rules::rules::none_cyclic` meets its contract: the loop has tested the tags passed. Assumes nothing.
-use Rattle.std.proofs.Common.{◌&&◌, refl, sym, ap₂, ◌∙◌, arith}
-use Rattle.numbers.specs.Below.{all_below}
-use Rattle.numbers.proofs.Below.{all-next}
-use Rattle.link_rules.proofs.rules.none_cyclic.Invariants.{none}
+-- `link_rules::rules::none_cyclic` meets its contract: the fold is the test of each tag. Assumes nothing.
+use Rattle.std.proofs.Common.{rules, refl, ◌∙◌, ◌&&◌, Bool, true, List, ℕ, ◌*◌, arith}
+use borrow.Author.Tests.{tests}
+use Rattle.std.specs.List.{range_with_len}
+use Rattle.std.proofs.lemmas.Iterator.{YieldsList-from_range}
+use Rattle.std.proofs.lemmas.Iterator.Consumers.{fold_from_yields_List}
+use Rattle.numbers.proofs.BelowLists.{fold_all, all_range}
+use Rattle.links.specs.Cycles.{no_cycle}
+use Rattle.link_rules.specs.Rows.{row_links}
 use Rattle.link_rules.proofs.rules.none_cyclic.Goals as goal
 
-pub loop-t-init : goal.loop-t-init
-unfolding all_below
-loop-t-init c = (omega arith, refl)
+-- the rows of tag t
+abbrev none : List ℕ → ℕ → Bool
+none rows t = no_cycle (row_links rows (t * 64))
 
-pub loop-t-preserved : goal.loop-t-preserved
-loop-t-preserved c = let a = c.args in
-    let t = c.loop-t.t in
-    (omega arith, ap₂ ◌&&◌ c.no_cycle-none.ensures c.loop-t.invariant.1 ∙ sym (all-next t (none a.rows.now)))
+pub returns : goal.returns
+returns c = let a = c.args in
+    let ts = range_with_len 0 a.tags in
+    fold_from_yields_List _ (λ ok t. ok && none a.rows.now t) true _ c.fold.ensures.ran (YieldsList-from_range 0 a.tags a.tags refl (omega arith)) (λ b x r q k. search (rules, tests))
+    ∙ fold_all (none a.rows.now) ts ∙ all_range (none a.rows.now) a.tags
