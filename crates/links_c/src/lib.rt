@@ -29,10 +29,10 @@ pub extern "C" fn links_closes_cycle(links: &[u32], n: usize, t: u8, p: u8, q: u
 
 // A supertag t of the maker r.
 #[unsafe(no_mangle)]
-pub extern "C" fn links_authoritative<'a>(
-    links: &'a [u32],
+pub extern "C" fn links_authoritative(
+    links: &[u32],
     n: usize,
-    tags: &'a [u32],
+    tags: &[u32],
     m: usize,
     t: u8,
     r: u8,
@@ -49,10 +49,10 @@ pub extern "C" fn links_authoritative<'a>(
 
 // A subtag t of the maker r, of the supertag u of the maker s.
 #[unsafe(no_mangle)]
-pub extern "C" fn links_authoritative_sub<'a>(
-    links: &'a [u32],
+pub extern "C" fn links_authoritative_sub(
+    links: &[u32],
     n: usize,
-    tags: &'a [u32],
+    tags: &[u32],
     m: usize,
     t: u8,
     r: u8,
