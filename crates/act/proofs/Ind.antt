@@ -4,6 +4,7 @@ use mathlib.Core.Bool.{Bool, true, not}
 use mathlib.Core.List.{List}
 use Prim.Native.Nat.{ℕ}
 use borrow.Author.Tests.{not-false}
+use Rattle.std.specs.Prelude.{Result}
 use Rattle.numbers.proofs.Bools.{by-test}
 use Rattle.tables.specs.declared.Tables.{Tables}
 use Rattle.frames.specs.Requests.{kind_of, request_of, well_formed}
@@ -11,7 +12,6 @@ use Rattle.answers.specs.declared.Refusal.{Refusal}
 use Rattle.answers.specs.declared.Refusal.TheVariants.{Malformed, NotLive, Unnamed, Flow}
 use Rattle.named.specs.Named.{named}
 use Rattle.flows.specs.Flows.{flows}
-use Rattle.prelude.specs.declared.Checked.{Checked}
 use Rattle.prelude.specs.Prelude.{prelude}
 use Rattle.outcomes.specs.declared.Outcome.{Outcome}
 use Rattle.outcomes.specs.Outcomes.{refused}
@@ -32,7 +32,7 @@ module _ (t : Tables) (l g f : List ℕ) (allowed : Bool) where
   unfolding outcome_by prelude
   outcome-ind P stop go =
       let s = seen t l g f in
-      let Q : Checked → Type 0 = λ c. P (unless_stopped c (decide s l g (request_of f) allowed)) in
+      let Q : Result Unit Refusal → Type 0 = λ c. P (unless_stopped c (decide s l g (request_of f) allowed)) in
       by-test P (not (well_formed f)) (λ e. stop Malformed) (λ formed.
       by-test Q (not s.caller.live) (λ e. stop NotLive) (λ live.
       by-test Q (not (named s (request_of f))) (λ e. stop Unnamed) (λ there.

@@ -6,7 +6,7 @@ use mathlib.Core.List.{List, [], ◌∷◌}
 use Prim.Native.Nat.{ℕ, zero, suc, ◌<◌}
 use native.Mathlib.Omega.{arith}
 use lib.ListN.{length, get_or}
-use Rattle.numbers.specs.Numbers.{most_threads, most_tags, most_objects, most_remembered}
+use Rattle.numbers.specs.Numbers.{most_threads, most_objects, most_remembered}
 use Rattle.memory.specs.declared.Memory.{Memory}
 use Rattle.memory.specs.Remembered.{Fits}
 use Rattle.memory.specs.Notes.{noted}
@@ -42,7 +42,6 @@ module _
     (l g b f : List ℕ)
     (rules : hold_but_truth s.tables s.memory l g b ≡ true)
     (threads : length s.tables.threads ≡ most_threads)
-    (kinds : length s.tables.kinds ≡ most_tags)
     (objects : length s.tables.objects ≡ most_objects)
     (pairs : length s.memory.pairs ≡ most_remembered)
   where
@@ -87,7 +86,7 @@ module _
     room =
         let r = whole_room in
         subst (HasRoom (counts_in sight) own b f) (sym same_outcome)
-        (record { rows = read_fits t n own threads kinds objects read comes.outcome.rows r.rows; links = r.links; grants = r.grants; store = r.store; answer = r.answer })
+        (record { rows = read_fits t n own read comes.outcome.rows r.rows; links = r.links; grants = r.grants; store = r.store; answer = r.answer })
 
     -- what it writes is what the step is defined to leave, whatever the answer buffer a
     pub leaves : (a : List ℕ)
@@ -96,5 +95,5 @@ module _
     leaves a =
         ap₂ (λ (x : Tables) (y : Memory). record { tables = x; memory = y })
         (ap (λ (o : Outcome). written t (writes_of sight own n o)) same_outcome
-        ∙ all-written t n own threads kinds objects read (count_after comes.outcome.links t.links) (count_after comes.outcome.grants t.grants) comes.outcome.rows whole_room.rows)
+        ∙ all-written t n own read (count_after comes.outcome.links t.links) (count_after comes.outcome.grants t.grants) comes.outcome.rows whole_room.rows)
         (weighs-memory sight l g f s.memory fits pairs)

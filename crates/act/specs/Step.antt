@@ -1,6 +1,6 @@
 -- One request (01): refusal 1, then 2, 3 and 4, then the question of authority where the request asks one, then 5 to 8 of its kind's
 -- row, or what is done. Only `asked` reads the memory; all else sees its yes or no. Assumes nothing.
-use Rattle.std.specs.Prelude.{Bool, true, false, not, cond, ◌&&◌, ◌||◌, List, ℕ, length}
+use Rattle.std.specs.Prelude.{Bool, true, false, not, cond, ◌&&◌, ◌||◌, List, ℕ, length, Result, Ok, Err}
 use Rattle.links.specs.declared.lists.Graph.TheVariants.{Principals}
 use Rattle.links.specs.Links.{links_in}
 use Rattle.links.specs.Authority.{authoritative}
@@ -10,12 +10,11 @@ use Rattle.tables.specs.declared.Tables.{Tables}
 use Rattle.frames.specs.declared.requests.Request.{Request}
 use Rattle.frames.specs.Requests.{thread_of, kind_of, request_of, well_formed}
 use Rattle.answers.specs.declared.Answer.{Answer}
+use Rattle.answers.specs.declared.Refusal.{Refusal}
 use Rattle.answers.specs.declared.Refusal.TheVariants.{Malformed}
 use Rattle.answers.specs.Answers.{status_of, answer_bytes, front}
 use Rattle.sight.specs.declared.Sight.{Sight}
 use Rattle.sight.specs.Sight.{sight_of, tag_named}
-use Rattle.prelude.specs.declared.Checked.{Checked}
-use Rattle.prelude.specs.declared.Checked.TheVariants.{Passed, Stopped}
 use Rattle.prelude.specs.Prelude.{prelude, asks}
 use Rattle.outcomes.specs.declared.Outcome.{Outcome}
 use Rattle.outcomes.specs.declared.ListChange.{ListChange}
@@ -30,14 +29,14 @@ pub record Considered : Type 0 where
   pub outcome : Outcome
   pub memory : Memory
 
-abbrev pub passes : Checked → Bool
-passes Passed = true
-passes (Stopped r) = false
+abbrev pub passes : Result Unit Refusal → Bool
+passes (Ok u) = true
+passes (Err r) = false
 
 -- refused by 2, 3 or 4, or what the kind's row says
-abbrev pub unless_stopped : Checked → Outcome → Outcome
-unless_stopped Passed o = o
-unless_stopped (Stopped r) o = refused r
+abbrev pub unless_stopped : Result Unit Refusal → Outcome → Outcome
+unless_stopped (Ok u) o = o
+unless_stopped (Err r) o = refused r
 
 -- ---- a request r that sees s, with principal links l and tag links g
 
@@ -57,7 +56,7 @@ module _ (s : Sight) (l g : List ℕ) (r : Request) where
 -- ---- the request of frame f that sees s, with principal links l and tag links g
 
 module _ (s : Sight) (l g f : List ℕ) where
-  abbrev pub checked_by : Checked
+  abbrev pub checked_by : Result Unit Refusal
   checked_by = prelude s (kind_of f) (request_of f)
 
   -- "A question .. is asked by 06, 09, 0B and 0C, once, when the authority check is reached"
@@ -81,7 +80,7 @@ module _ (t : Tables) (l g f : List ℕ) where
   abbrev pub seen : Sight
   seen = sight_of t (thread_of f) (request_of f)
 
-  abbrev pub checked : Checked
+  abbrev pub checked : Result Unit Refusal
   checked = checked_by seen l g f
 
   abbrev pub asks_one : Bool

@@ -26,7 +26,7 @@ use lent::Counts;
 use memory::{Note, Tally, as_is, pair_of, wiped};
 use numbers::Thread;
 use outcomes::{ListChange, Outcome, refused};
-use prelude::{Checked, asks_authority, check};
+use prelude::{asks_authority, check};
 use sight::{Sight, tag_named};
 use tables::rows::ThreadRow;
 
@@ -121,8 +121,8 @@ fn consider<'a>(
     }
     let r = request_of(frame);
     match check(s, byte_at(frame, 1), r) {
-        Checked::Passed => follow_row(s, m, links, grants, r),
-        Checked::Stopped(x) => stopped(m, x),
+        Ok(()) => follow_row(s, m, links, grants, r),
+        Err(x) => stopped(m, x),
     }
 }
 

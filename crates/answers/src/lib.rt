@@ -6,26 +6,26 @@
 #![tactic(auto)]
 
 ghost use Rattle.std.specs.Prelude.{◌≡◌, ◌∷◌, ◌≤◌, length};
-ghost use Rattle.answers.specs.Answers.{refusal_number, status_of, length_of, front, answer_bytes, Ready};
+ghost use Rattle.answers.specs.Answers.{status_of, length_of, front, answer_bytes, Ready};
 
 use frames::requests::Span;
 
 // Refusals 1 to 9, in order of check.
-#[derive(Clone, Copy)]
+#[derive(Clone, Copy, PartialEq, Eq)]
 pub enum Refusal {
-    Malformed,
-    NotLive,
-    Unnamed,
-    Flow,
-    Authority,
-    Cycle,
-    Full,
-    Empty,
-    BrokenRule,
+    Malformed = 1,
+    NotLive = 2,
+    Unnamed = 3,
+    Flow = 4,
+    Authority = 5,
+    Cycle = 6,
+    Full = 7,
+    Empty = 8,
+    BrokenRule = 9,
 }
 
 // A message is kept at a place of the store, or was given in the frame.
-#[derive(Clone, Copy)]
+#[derive(Clone, Copy, PartialEq, Eq)]
 pub enum Answer {
     Refused(Refusal),
     Done,
@@ -34,31 +34,12 @@ pub enum Answer {
     Given(Span),
 }
 
-fn number_of(r: Refusal) -> u8
-    ensures { result ≡ refusal_number r }
-{
-    match r {
-        Refusal::Malformed => 1,
-        Refusal::NotLive => 2,
-        Refusal::Unnamed => 3,
-        Refusal::Flow => 4,
-        Refusal::Authority => 5,
-        Refusal::Cycle => 6,
-        Refusal::Full => 7,
-        Refusal::Empty => 8,
-        Refusal::BrokenRule => 9,
-    }
-}
-
 pub fn status_of(a: Answer) -> u8
     ensures { result ≡ status_of a }
 {
     match a {
-        Answer::Refused(r) => number_of(r),
-        Answer::Done => 0,
-        Answer::Value(_) => 0,
-        Answer::Kept(_) => 0,
-        Answer::Given(_) => 0,
+        Answer::Refused(r) => r as u8,
+        _ => 0,
     }
 }
 
@@ -68,8 +49,7 @@ pub fn length_of<'a>(a: Answer, frame: &'a [u8], store: &'a [u8]) -> usize
     ensures { result ≡ length_of store.now a }
 {
     match a {
-        Answer::Refused(_) => 1,
-        Answer::Done => 1,
+        Answer::Refused(_) | Answer::Done => 1,
         Answer::Value(_) => 2,
         Answer::Kept(at) => 2 + store[at] as usize,
         Answer::Given(m) => 2 + m.len,
@@ -93,21 +73,13 @@ pub fn write<'a>(a: Answer, frame: &'a [u8], store: &'a [u8], answer: &mut [u8])
     ensures { answer.new ≡ front (answer_bytes frame.now store.now a) answer.old }
 {
     match a {
-        Answer::Refused(r) => {
-            answer[0] = number_of(r);
-        }
-        Answer::Done => {
-            answer[0] = 0;
-        }
+        Answer::Refused(r) => answer[0] = r as u8,
+        Answer::Done => answer[0] = 0,
         Answer::Value(v) => {
             answer[0] = 0;
             answer[1] = v;
         }
         Answer::Kept(at) => write_message(store::message(store, at), answer),
-        Answer::Given(m) => {
-            let at = m.at;
-            let end = at + m.len;
-            write_message(&frame[at..end], answer);
-        }
+        Answer::Given(m) => write_message(&frame[m.at..m.at + m.len], answer),
     }
 }

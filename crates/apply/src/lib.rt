@@ -29,11 +29,7 @@ pub fn apply_store(c: StoreChange, frame: &[u8], store: &mut [u8])
 {
     match c {
         StoreChange::Keep => (),
-        StoreChange::Put(at, m) => {
-            let from = m.at;
-            let end = from + m.len;
-            store::put(store, at, &frame[from..end]);
-        }
+        StoreChange::Put(at, m) => store::put(store, at, &frame[m.at..m.at + m.len]),
         StoreChange::TakeFirst(at) => store::take_first(store, at),
         StoreChange::Free(at) => store::free(store, at),
     }

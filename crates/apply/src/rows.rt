@@ -1,98 +1,47 @@
 // The rows: what a change writes into the tables, at most one row of each and the counts.
 ghost use Rattle.std.specs.Prelude.{◌≡◌, ◌<◌, ◌≤◌};
 ghost use Rattle.apply.specs.Apply.{labelled, forked, called, back_from, RowFits};
-ghost use Rattle.apply.specs.Writes.{no_writes, writes_thread, writes_tag, writes_object, writes_principal, row_writes};
+ghost use Rattle.apply.specs.Writes.{of_row, row_writes};
 
 use lent::Counts;
-use numbers::{LabelPair, OBJECTS, PUBLIC, Principal, TAGS, THREADS};
+use numbers::{LabelPair, PUBLIC, Principal};
 use outcomes::RowChange;
-use tables::rows::{ObjectRow, TagRow, ThreadRow, no_object, no_tag, no_thread};
+use tables::rows::{ObjectRow, TagRow, ThreadRow, no_thread};
 
-// A number past the last row writes none.
+// The one row that is written, under its number, or none.
+#[derive(Clone, Copy)]
+pub enum RowWrite {
+    Keep,
+    Thread(usize, ThreadRow),
+    Tag(usize, TagRow),
+    Object(usize, ObjectRow),
+}
+
 #[derive(Clone, Copy)]
 pub struct Writes {
-    pub thread: usize,
-    pub thread_row: ThreadRow,
-    pub tag: usize,
-    pub tag_row: TagRow,
-    pub object: usize,
-    pub object_row: ObjectRow,
+    pub row: RowWrite,
     pub counts: Counts,
 }
 
-// No row is written, and the counts are these.
-fn no_writes(c: Counts) -> Writes
-    ensures { result ≡ no_writes c }
+fn of_row(row: RowWrite, counts: Counts) -> Writes
+    ensures { result ≡ of_row row counts }
 {
-    let thread_row = no_thread();
-    let tag_row = no_tag();
-    let object_row = no_object();
-    Writes {
-        thread: THREADS,
-        thread_row,
-        tag: TAGS,
-        tag_row,
-        object: OBJECTS,
-        object_row,
-        counts: c,
-    }
-}
-
-fn writes_thread(c: Counts, n: usize, row: ThreadRow) -> Writes
-    ensures { result ≡ writes_thread c n row }
-{
-    let mut w = no_writes(c);
-    w.thread = n;
-    w.thread_row = row;
-    w
-}
-
-fn writes_principal(c: Counts) -> Writes
-    requires { c.principals < 64 }
-    ensures { result ≡ writes_principal c }
-{
-    let mut counts = c;
-    counts.principals = c.principals + 1;
-    no_writes(counts)
-}
-
-fn writes_tag(c: Counts, row: TagRow) -> Writes
-    requires { c.tags < 64 }
-    ensures { result ≡ writes_tag c row }
-{
-    let mut counts = c;
-    counts.tags = c.tags + 1;
-    let mut w = no_writes(counts);
-    w.tag = c.tags as usize;
-    w.tag_row = row;
-    w
-}
-
-fn writes_object(c: Counts, o: usize, row: ObjectRow) -> Writes
-    ensures { result ≡ writes_object c o row }
-{
-    let mut w = no_writes(c);
-    w.object = o;
-    w.object_row = row;
-    w
+    Writes { row, counts }
 }
 
 fn labelled(row: ThreadRow, labels: LabelPair) -> ThreadRow
     ensures { result ≡ labelled row labels }
 {
-    let mut next = row;
-    next.labels = labels;
-    next
+    ThreadRow { labels, ..row }
 }
 
 fn forked(row: ThreadRow, p: Principal) -> ThreadRow
     ensures { result ≡ forked row p }
 {
-    let labels = row.labels;
     ThreadRow {
         live: 1,
         principal: p,
-        labels,
+        labels: row.labels,
         calls: 0,
         aside: [Principal(PUBLIC); 8],
     }
@@ -103,13 +52,14 @@ fn called(row: ThreadRow, p: Principal) -> ThreadRow
     requires { row.calls < 8 }
     ensures { result ≡ called row p }
 {
-    let k = row.calls;
-    let who = row.principal;
-    let mut next = row;
-    next.aside[k] = who;
-    next.calls = k + 1;
-    next.principal = p;
-    next
+    let mut aside = row.aside;
+    aside[row.calls] = row.principal;
+    ThreadRow {
+        principal: p,
+        calls: row.calls + 1,
+        aside,
+        ..row
+    }
 }
 
 // "last one put aside is back; labels stay"
@@ -117,13 +67,16 @@ fn back_from(row: ThreadRow) -> ThreadRow
     requires { (0 < row.calls) × (row.calls ≤ 8) }
     ensures { result ≡ back_from row }
 {
-    let k = row.calls - 1;
-    let aside = row.aside;
-    let mut next = row;
-    next.principal = aside[k];
-    next.aside[k] = Principal(PUBLIC);
-    next.calls = k;
-    next
+    let calls = row.calls - 1;
+    let principal = row.aside[calls];
+    let mut aside = row.aside;
+    aside[calls] = Principal(PUBLIC);
+    ThreadRow {
+        principal,
+        calls,
+        aside,
+        ..row
+    }
 }
 
 // The caller has the number n and the row `own`.
@@ -132,14 +85,29 @@ pub fn row_writes(n: usize, own: ThreadRow, counts: Counts, c: RowChange) -> Wri
     ensures { result ≡ row_writes n own counts c }
 {
     match c {
-        RowChange::Keep => no_writes(counts),
-        RowChange::NewPrincipal => writes_principal(counts),
-        RowChange::NewTag(r) => writes_tag(counts, r),
-        RowChange::Labels(l) => writes_thread(counts, n, labelled(own, l)),
-        RowChange::NewThread(k, p) => writes_thread(counts, k, forked(own, p)),
-        RowChange::End => writes_thread(counts, n, no_thread()),
-        RowChange::Call(p) => writes_thread(counts, n, called(own, p)),
-        RowChange::Return => writes_thread(counts, n, back_from(own)),
-        RowChange::Object(o, r) => writes_object(counts, o, r),
+        RowChange::Keep => of_row(RowWrite::Keep, counts),
+        RowChange::NewPrincipal => {
+            let principals = counts.principals + 1;
+            of_row(
+                RowWrite::Keep,
+                Counts {
+                    principals,
+                    ..counts
+                },
+            )
+        }
+        RowChange::NewTag(row) => {
+            let tags = counts.tags + 1;
+            of_row(
+                RowWrite::Tag(counts.tags as usize, row),
+                Counts { tags, ..counts },
+            )
+        }
+        RowChange::Labels(labels) => of_row(RowWrite::Thread(n, labelled(own, labels)), counts),
+        RowChange::NewThread(k, p) => of_row(RowWrite::Thread(k, forked(own, p)), counts),
+        RowChange::End => of_row(RowWrite::Thread(n, no_thread()), counts),
+        RowChange::Call(p) => of_row(RowWrite::Thread(n, called(own, p)), counts),
+        RowChange::Return => of_row(RowWrite::Thread(n, back_from(own)), counts),
+        RowChange::Object(o, row) => of_row(RowWrite::Object(o, row), counts),
     }
 }

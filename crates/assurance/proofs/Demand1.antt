@@ -7,6 +7,7 @@ use mathlib.Core.Logic.{◌⊎◌, inl, inr, ⊎_elim}
 use Prim.Native.Nat.{ℕ}
 use lib.Dec.{eqb, ltb}
 use lib.ListN.{length}
+use Rattle.std.specs.Prelude.{Result, Ok, Err}
 use Rattle.numbers.proofs.Bools.{by-test, either}
 use Rattle.numbers.proofs.Chain.{skip, hit}
 use Rattle.memory.specs.declared.Memory.{Memory}
@@ -24,8 +25,6 @@ use Rattle.answers.specs.Answers.{refusal_number, status_of, answer_bytes, front
 use Rattle.sight.specs.declared.Sight.{Sight}
 use Rattle.named.specs.Named.{named}
 use Rattle.flows.specs.Flows.{flows}
-use Rattle.prelude.specs.declared.Checked.{Checked}
-use Rattle.prelude.specs.declared.Checked.TheVariants.{Passed, Stopped}
 use Rattle.prelude.specs.Prelude.{prelude}
 use Rattle.outcomes.specs.declared.Outcome.{Outcome}
 use Rattle.outcomes.specs.Outcomes.{refused}
@@ -61,7 +60,7 @@ module _ (t : Tables) (l g f : List ℕ) (allowed : Bool) where
   row = decide s l g (request_of f) allowed
 
   -- the number of what a request comes to
-  abbrev told : Checked → ℕ
+  abbrev told : Result Unit Refusal → ℕ
   told c = status_of (unless_stopped c row).answer
 
   outcome-number :
@@ -71,10 +70,10 @@ module _ (t : Tables) (l g f : List ℕ) (allowed : Bool) where
   outcome-number =
       over-cond (λ (o : Outcome). status_of o.answer) (not (well_formed f)) (refused Malformed) (unless_stopped (prelude s (kind_of f) (request_of f)) row)
       ∙ ap (cond (not (well_formed f)) 1)
-      (over-cond told (not s.caller.live) (Stopped NotLive) _
+      (over-cond told (not s.caller.live) (Err NotLive) _
       ∙ ap (cond (not s.caller.live) 2)
-      (over-cond told (not (named s (request_of f))) (Stopped Unnamed) _
-      ∙ ap (cond (not (named s (request_of f))) 3) (over-cond told (not (flows s (kind_of f) (request_of f))) (Stopped Flow) Passed)))
+      (over-cond told (not (named s (request_of f))) (Err Unnamed) _
+      ∙ ap (cond (not (named s (request_of f))) 3) (over-cond told (not (flows s (kind_of f) (request_of f))) (Err Flow) (Ok tt))))
 
 pub order-is-fixed : OrderIsFixed
 unfolding requested number_of
@@ -116,14 +115,14 @@ module _ (s : Sight) (l g : List ℕ) (allowed : Bool) where
   thread-stands (thread.is-in a) = inl refl
   thread-stands (thread.into-integrity a b c) = inl refl
   thread-stands thread.out-of-integrity = inl refl
-  thread-stands (thread.forks a b c) = inl refl
+  thread-stands (thread.forks n a b c) = inl refl
   thread-stands thread.ends = inl refl
   thread-stands (thread.calls a b c) = inl refl
   thread-stands (thread.returns a) = inl refl
 
   object-stands : {r : ObjectRequest} {o : Outcome} → object.ObjectComes s r o → Stands o
   object-stands (object.stops x) = inr (x, refl)
-  object-stands (object.makes a b c) = inl refl
+  object-stands (object.makes n a b c) = inl refl
   object-stands (object.deletes a) = inl refl
   object-stands (object.reads a) = inl refl
   object-stands (object.writes a) = inl refl

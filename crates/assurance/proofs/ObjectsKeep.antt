@@ -6,6 +6,8 @@ use Prim.Native.Nat.{ℕ, ◌+◌, ◌-◌, ◌≤◌, ◌<◌}
 use native.Mathlib.Omega.{arith}
 use borrow.Author.Tests.{le-leb, leb-true}
 use lib.ListN.{length, set}
+use Rattle.std.specs.Prelude.{Some}
+use Rattle.std.proofs.lemmas.List.Quantifiers.{position-Some}
 use Rattle.numbers.specs.Numbers.{most_objects, most_queued, longest_message}
 use Rattle.numbers.specs.declared.Object.{Object}
 use Rattle.numbers.specs.declared.flow.LabelPair.{LabelPair}
@@ -21,7 +23,6 @@ use Rattle.tables.specs.declared.rows.What.TheVariants as what
 use Rattle.tables.specs.Things.{no_object, object_at}
 use Rattle.tables.specs.Free.{free_object}
 use Rattle.tables.proofs.Among.{used-among}
-use Rattle.tables.proofs.First.{first-is}
 use Rattle.frames.specs.Requests.{thread_of}
 use Rattle.frames.specs.declared.requests.Span.{Span}
 use Rattle.frames.specs.declared.requests.ObjectKind.{ObjectKind}
@@ -95,18 +96,18 @@ module _ (w : World) (holds : WorldHolds w) (sized : SizedWorld w) (f : List ℕ
 
   -- 12
   object-made :
-      (k : ObjectKind) (l : LabelPair) → labels_made w.tables.tags l ≡ true → free_object rows < most_objects →
-      WorldHolds (world_of (with_object w.tables (free_object rows) (object_row (empty_of k) l)) w.links w.grants s)
-  object-made k l made room =
-      let free = first-is ObjectRow (λ (x : ObjectRow). is_free (what_of x)) no_object rows (omega (arith, room, sized.objects)) in
-      objects-changed (set rows (free_object rows) (object_row (empty_of k) l)) s
-      (object-put holds.objects (free_object rows) (empty_of k) l (new-used k) (new-fits k) made)
+      (k : ObjectKind) (l : LabelPair) (n : ℕ) → labels_made w.tables.tags l ≡ true → free_object rows ≡ Some n →
+      WorldHolds (world_of (with_object w.tables n (object_row (empty_of k) l)) w.links w.grants s)
+  object-made k l n made free =
+      let is = position-Some (λ (x : ObjectRow). is_free (what_of x)) rows n no_object free in
+      objects-changed (set rows n (object_row (empty_of k) l)) s
+      (object-put holds.objects n (empty_of k) l (new-used k) (new-fits k) made)
       holds.whole
-      (store-new sized.objects holds.whole holds.store room (empty_of k) l free)
+      (store-new sized.objects holds.whole holds.store (omega (arith, is.0, sized.objects)) (empty_of k) l is.1)
 
   pub object-keeps : {r : ObjectRequest} {o : Outcome} → ObjectSpans f r → comes.ObjectComes (sight_of w.tables (thread_of f) (OfObject r)) r o → WorldHolds (applied w f o)
   object-keeps spans (comes.stops x) = holds
-  object-keeps spans (comes.makes {k} {l} a b free) = object-made k l ((labels-are w.tables.tags l).1 (a, b)) free
+  object-keeps spans (comes.makes {k} {l} n a b free) = object-made k l n ((labels-are w.tables.tags l).1 (a, b)) free
   object-keeps spans (comes.deletes {o} used) =
       let low = in_use o _ refl used in
       objects-changed _ _ (object-freed holds.objects o.0) (store-whole-freed s holds.whole low) (store-freed sized.objects holds.whole holds.store low)

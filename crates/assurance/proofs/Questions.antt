@@ -5,6 +5,7 @@ use mathlib.Core.List.{List}
 use Prim.Native.Nat.{ℕ, ◌+◌, ◌*◌, ◌/◌, ◌%◌, ◌<◌}
 use native.Mathlib.Omega.{arith}
 use borrow.Author.Tests.{ltb-true, not-false}
+use Rattle.std.specs.Prelude.{Result}
 use Rattle.numbers.specs.Numbers.{most_threads}
 use Rattle.numbers.proofs.Bools.{and_left, and_right, implies, never, by-test}
 use Rattle.links.specs.declared.lists.Graph.TheVariants.{Principals}
@@ -20,11 +21,11 @@ use Rattle.frames.specs.declared.requests.ThreadRequest.TheVariants.{IntoSecrecy
 use Rattle.frames.specs.declared.requests.Request.{Request}
 use Rattle.frames.specs.declared.requests.Request.TheVariants.{OfAuthority, OfThread, OfObject, OfOutside}
 use Rattle.frames.specs.Requests.{thread_of, kind_of, request_of, well_formed}
+use Rattle.answers.specs.declared.Refusal.{Refusal}
 use Rattle.sight.specs.declared.Sight.{Sight}
 use Rattle.sight.specs.Sight.{tag_named}
 use Rattle.named.specs.Named.{is_supertag, tag_made, named}
 use Rattle.flows.specs.Flows.{flows}
-use Rattle.prelude.specs.declared.Checked.{Checked}
 use Rattle.prelude.specs.Prelude.{prelude, asks}
 use Rattle.thread_rules.specs.ThreadRules.{aside_made}
 use Rattle.act.specs.Step.{passes, seen, checked, asks_one, pair_asked, walked}
@@ -57,7 +58,7 @@ asks-made s (OfOutside r) a n = absurd (never a refl)
 pub passed-gives : (s : Sight) (k : ℕ) (r : Request) → passes (prelude s k r) ≡ true → (s.caller.live ≡ true) × (named s r ≡ true)
 unfolding prelude
 passed-gives s k r =
-    let P : Checked → Type 0 = λ c. passes c ≡ true → (s.caller.live ≡ true) × (named s r ≡ true) in
+    let P : Result Unit Refusal → Type 0 = λ c. passes c ≡ true → (s.caller.live ≡ true) × (named s r ≡ true) in
     by-test P (not s.caller.live) (λ e q. absurd (never q refl)) (λ live.
     by-test P (not (named s r)) (λ e q. absurd (never q refl)) (λ there.
     by-test P (not (flows s k r)) (λ e q. absurd (never q refl)) (λ flow q. (not-false _ live, not-false _ there))))

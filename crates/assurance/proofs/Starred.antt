@@ -16,9 +16,8 @@ use Rattle.numbers.specs.Sets.{set_of}
 use Rattle.prelude.specs.Prelude.{prelude}
 use Rattle.act.specs.Step.{outcome_by}
 use Rattle.tables.specs.Rows.{rank_of, what_of}
-use Rattle.tables.specs.Free.{first_of}
 use Rattle.assurance.specs.Cases.{AllCases, all_hold, runs_to, same}
 
 pub all-cases : AllCases
-unfolding all_hold runs_to same new_principal delegate revoke tells_acts_for tag_if_room new_tag new_subtag grant ungrant new_object put get lock out_of_secrecy into_integrity returned fork call need_of fixed_length length_byte authority_request thread_request object_request outside_request well_formed request_by acts_for_some every_link no_cycle links_from find_from gap_closed joins leads without remembered all_below any_below count_below within with_tag without_tag union names_only_made size set_of prelude outcome_by rank_of what_of first_of
+unfolding all_hold runs_to same new_principal delegate revoke tells_acts_for tag_if_room new_tag new_subtag grant ungrant new_object put get lock out_of_secrecy into_integrity returned fork call need_of fixed_length length_byte authority_request thread_request object_request outside_request well_formed request_by acts_for_some every_link no_cycle links_from find_from gap_closed joins leads without remembered all_below any_below count_below within with_tag without_tag union names_only_made size set_of prelude outcome_by rank_of what_of
 all-cases = refl

@@ -5,10 +5,11 @@ use mathlib.Core.Bool.{Bool, true, false}
 use Prim.Native.Nat.{ℕ, ◌+◌, ◌-◌, ◌<◌}
 use lib.Dec.{leb, ltb}
 use borrow.Author.Tests.{leb-false, ltb-false, not-true}
+use Rattle.std.specs.Prelude.{Option, Some, None}
 use Rattle.numbers.specs.declared.Object.{Object}
 use Rattle.numbers.specs.declared.flow.LabelPair.{LabelPair}
 use Rattle.numbers.specs.Labels.{names_only_made}
-use Rattle.numbers.specs.Numbers.{most_objects, most_queued}
+use Rattle.numbers.specs.Numbers.{most_queued}
 use Rattle.numbers.proofs.Bools.{and_left, and_right, by-test}
 use Rattle.store.specs.Store.{place_at}
 use Rattle.tables.specs.Rows.{is_free, held_in, is_locked, what_of, object_row}
@@ -28,7 +29,7 @@ use Rattle.outcomes.specs.declared.Outcome.{Outcome}
 use Rattle.outcomes.specs.declared.StoreChange.TheVariants as store
 use Rattle.outcomes.specs.declared.RowChange.TheVariants as rows
 use Rattle.outcomes.specs.Outcomes.{rows_changed, refused}
-use Rattle.decide_objects.specs.Objects.{object_changed, empty_of, now_is, new_object, put, get, lock, decide_object}
+use Rattle.decide_objects.specs.Objects.{object_changed, empty_of, now_is, made_at, new_object, put, get, lock, decide_object}
 
 -- what is a cell is nothing else
 is-cell : (w : What) → is_cell w ≡ true → w ≡ what.Cell
@@ -51,6 +52,15 @@ is-lock what.Cell e = cc
 is-lock (what.Queue held) e = cc
 is-lock (what.Lock locked) e = refl
 
+-- a new object has the number that is free, if one is
+by-free :
+    (P : Outcome → Type 0) (k : ObjectKind) (l : LabelPair) (x : Option ℕ) →
+    P (refused Full) →
+    ((n : ℕ) → x ≡ Some n → P (rows_changed (Value n) (rows.Object n (object_row (empty_of k) l)))) →
+    P (made_at k l x)
+by-free P k l None full one = full
+by-free P k l (Some n) full one = one n refl
+
 module _ (s : Sight) where
   -- what the object is that the request names
   abbrev is : What
@@ -59,11 +69,11 @@ module _ (s : Sight) where
   pub data ObjectComes : ObjectRequest → Outcome → Type 0 where
     stops : {r : ObjectRequest} (x : Refusal) → ObjectComes r (refused x)
     makes :
-        {k : ObjectKind} {l : LabelPair} →
+        {k : ObjectKind} {l : LabelPair} (n : ℕ) →
         names_only_made l.secrecy s.tags ≡ true →
         names_only_made l.integrity s.tags ≡ true →
-        s.free < most_objects →
-        ObjectComes (New k l) (rows_changed (Value s.free) (rows.Object s.free (object_row (empty_of k) l)))
+        s.free ≡ Some n →
+        ObjectComes (New k l) (rows_changed (Value n) (rows.Object n (object_row (empty_of k) l)))
     deletes : {o : Object} → is_free is ≡ false → ObjectComes (Delete o) (object_changed Done (store.Free (place_at o.0 0)) (rows.Object o.0 no_object))
     reads : {o : Object} → is ≡ what.Cell → ObjectComes (ReadCell o) (rows_changed (Kept (place_at o.0 0)) rows.Keep)
     writes : {o : Object} {m : Span} → is ≡ what.Cell → ObjectComes (WriteCell o m) (object_changed Done (store.Put (place_at o.0 0) m) rows.Keep)
@@ -86,8 +96,7 @@ module _ (s : Sight) where
   object-comes (New k l) fits =
       let S = names_only_made l.secrecy s.tags in
       let I = names_only_made l.integrity s.tags in
-      by-test (ObjectComes (New k l)) (leb most_objects s.free) (λ e. stops Full)
-      (λ room. makes (and_left S I fits) (and_right S I fits) (leb-false most_objects s.free room))
+      by-free (ObjectComes (New k l)) k l s.free (stops Full) (λ n. makes n (and_left S I fits) (and_right S I fits))
   object-comes (Delete o) fits = deletes (not-true (is_free is) fits)
   object-comes (ReadCell o) fits = reads (is-cell is fits)
   object-comes (WriteCell o m) fits = writes (is-cell is fits)

@@ -1,16 +1,17 @@
 -- What is known of what kinds 0A to 11 come to: each outcome with the facts that its row's tests have shown. The laws above match on
 -- it and never unfold the tests. Assumes nothing.
-use mathlib.Core.Path.{◌≡◌}
+use mathlib.Core.Path.{◌≡◌, refl}
 use mathlib.Core.Bool.{Bool, true, false, not}
 use mathlib.Core.List.{List}
 use Prim.Native.Nat.{ℕ, ◌<◌}
 use lib.Dec.{leb, ltb}
 use borrow.Author.Tests.{leb-false, ltb-false, not-true, not-false}
+use Rattle.std.specs.Prelude.{Option, Some, None}
 use Rattle.numbers.specs.declared.Principal.{Principal}
 use Rattle.numbers.specs.declared.Tag.{Tag}
 use Rattle.numbers.specs.declared.flow.LabelPair.{LabelPair}
 use Rattle.numbers.specs.Labels.{has, with_tag, without_tag}
-use Rattle.numbers.specs.Numbers.{most_threads, most_put_aside}
+use Rattle.numbers.specs.Numbers.{most_put_aside}
 use Rattle.numbers.proofs.Bools.{by-test}
 use Rattle.frames.specs.declared.requests.ThreadRequest.{ThreadRequest}
 use Rattle.frames.specs.declared.requests.ThreadRequest.TheVariants.{IntoSecrecy, OutOfSecrecy, IntoIntegrity, OutOfIntegrity, Fork, End, Call, Return}
@@ -23,7 +24,16 @@ use Rattle.outcomes.specs.declared.Outcome.{Outcome}
 use Rattle.outcomes.specs.declared.RowChange.TheVariants as rows
 use Rattle.outcomes.specs.Outcomes.{rows_changed, refused, done}
 use Rattle.decide_authority.specs.Authority.{caller_acts_for}
-use Rattle.decide_threads.specs.Threads.{with_labels, out_of_secrecy, into_integrity, returned, fork, call, decide_thread}
+use Rattle.decide_threads.specs.Threads.{with_labels, out_of_secrecy, into_integrity, returned, forked_to, fork, call, decide_thread}
+
+-- a new thread has the number that is free, if one is
+by-free :
+    (P : Outcome → Type 0) (p : Principal) (x : Option ℕ) →
+    P (refused Full) →
+    ((n : ℕ) → x ≡ Some n → P (rows_changed (Value n) (rows.NewThread n p))) →
+    P (forked_to p x)
+by-free P p None full one = full
+by-free P p (Some n) full one = one n refl
 
 module _ (s : Sight) (l : List ℕ) (allowed : Bool) where
   -- the caller's labels
@@ -48,11 +58,11 @@ module _ (s : Sight) (l : List ℕ) (allowed : Bool) where
         ThreadComes (IntoIntegrity t) (with_labels own.secrecy (with_tag own.integrity t))
     out-of-integrity : {t : Tag} → ThreadComes (OutOfIntegrity t) (with_labels own.secrecy (without_tag own.integrity t))
     forks :
-        {p : Principal} →
+        {p : Principal} (n : ℕ) →
         principal_made s p ≡ true →
         caller_acts_for s l p ≡ true →
-        s.free < most_threads →
-        ThreadComes (Fork p) (rows_changed (Value s.free) (rows.NewThread s.free p))
+        s.free ≡ Some n →
+        ThreadComes (Fork p) (rows_changed (Value n) (rows.NewThread n p))
     ends : ThreadComes End (rows_changed Done rows.End)
     calls :
         {p : Principal} →
@@ -80,8 +90,7 @@ module _ (s : Sight) (l : List ℕ) (allowed : Bool) where
       let C = ThreadComes (Fork p) in
       let acts = caller_acts_for s l p in
       by-test C (not acts) (λ e. stops Authority)
-      (λ may. by-test C (leb most_threads s.free) (λ e. stops Full)
-      (λ room. forks named (not-false acts may) (leb-false most_threads s.free room)))
+      (λ may. by-free C p s.free (stops Full) (λ n. forks n named (not-false acts may)))
   thread-comes End named = ends
   thread-comes (Call p) named =
       let C = ThreadComes (Call p) in

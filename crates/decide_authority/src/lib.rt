@@ -27,8 +27,8 @@ use frames::requests::AuthorityRequest;
 use links::{Graph, Lineage, Rooted};
 use numbers::{LINKS, PRINCIPALS, PUBLIC, Principal, TAGS, Tag};
 use outcomes::{
-    ListChange, Outcome, RowChange, StoreChange, done, grants_changed, links_changed, refused,
-    rows_changed, told,
+    ListChange, Outcome, RowChange, done, grants_changed, links_changed, refused, rows_changed,
+    told,
 };
 use sight::Sight;
 use tables::rows::Rank;
@@ -38,8 +38,7 @@ fn own_of(l: Lineage) -> Rooted
     ensures { result ≡ own_of l }
 {
     match l {
-        Lineage::Supertag(t) => t,
-        Lineage::Subtag(t, _) => t,
+        Lineage::Supertag(t) | Lineage::Subtag(t, _) => t,
     }
 }
 
@@ -47,17 +46,14 @@ fn own_of(l: Lineage) -> Rooted
 pub fn caller_acts_for(s: Sight, links: &[u32], p: Principal) -> bool
     ensures { result ≡ caller_acts_for s links.now p }
 {
-    let caller = s.caller;
-    let who = caller.principal;
-    links::acts_for(links, s.links, who, p)
+    links::acts_for(links, s.links, s.caller.principal, p)
 }
 
 // "A counted node of T's own graph".
 fn is_counted(s: Sight, grants: &[u32], p: Principal) -> bool
     ensures { result ≡ counted s grants.now p }
 {
-    let lineage = s.lineage;
-    links::counted_node(grants, s.grants, own_of(lineage), p)
+    links::counted_node(grants, s.grants, own_of(s.lineage), p)
 }
 
 fn is_public(p: Principal) -> bool
@@ -69,8 +65,7 @@ fn is_public(p: Principal) -> bool
 fn caller_is_public(s: Sight) -> bool
     ensures { result ≡ is_public s.caller.principal }
 {
-    let caller = s.caller;
-    is_public(caller.principal)
+    is_public(s.caller.principal)
 }
 
 // 01
@@ -88,15 +83,10 @@ fn new_principal(s: Sight) -> Outcome
     if LINKS <= s.links {
         return refused(Refusal::Full);
     }
-    let caller = s.caller;
-    let who = caller.principal;
     let number = n as u8;
     Outcome {
-        answer: Answer::Value(number),
-        links: ListChange::Append(links::principal_link(Principal(number), who)),
-        grants: ListChange::Keep,
-        store: StoreChange::Keep,
-        rows: RowChange::NewPrincipal,
+        links: ListChange::Append(links::principal_link(Principal(number), s.caller.principal)),
+        ..rows_changed(Answer::Value(number), RowChange::NewPrincipal)
     }
 }
 
@@ -158,7 +148,7 @@ fn tell_acts_for(s: Sight, links: &[u32], p: Principal, q: Principal) -> Outcome
 fn tell(b: bool) -> Outcome
     ensures { result ≡ told_bool b }
 {
-    if b { told(1) } else { told(0) }
+    told(u8::from(b))
 }
 
 // 05
@@ -192,9 +182,7 @@ fn add_tag(s: Sight, rank: Rank) -> Outcome
     if TAGS <= n {
         return refused(Refusal::Full);
     }
-    let caller = s.caller;
-    let root = caller.principal;
-    let row = tag_row_of(root, rank);
+    let row = tag_row_of(s.caller.principal, rank);
     rows_changed(Answer::Value(n as u8), RowChange::NewTag(row))
 }
 

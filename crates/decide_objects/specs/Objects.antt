@@ -1,8 +1,8 @@
 -- Kinds 12 to 1B (01, "Requests"): their rows' refusals in order, and what is done. s is what the request sees. Assumes nothing.
-use Rattle.std.specs.Prelude.{true, false, cond, ℕ, ◌+◌, ◌-◌, leb, ltb}
+use Rattle.std.specs.Prelude.{true, false, cond, ℕ, Option, Some, None, ◌+◌, ◌-◌, leb, ltb}
 use Rattle.numbers.specs.declared.Object.{Object}
 use Rattle.numbers.specs.declared.flow.LabelPair.{LabelPair}
-use Rattle.numbers.specs.Numbers.{most_objects, most_queued}
+use Rattle.numbers.specs.Numbers.{most_queued}
 use Rattle.store.specs.Store.{place_at}
 use Rattle.tables.specs.Rows.{held_in, is_locked, what_of, object_row}
 use Rattle.tables.specs.Things.{no_object}
@@ -37,6 +37,11 @@ empty_of kind.Cell = what.Cell
 empty_of kind.Queue = what.Queue 0
 empty_of kind.Lock = what.Lock false
 
+-- 12, where this number is the lowest free: "64 objects 7"; "empty or unlocked; answers number"
+abbrev pub made_at : ObjectKind → LabelPair → Option ℕ → Outcome
+made_at k l None = refused Full
+made_at k l (Some n) = rows_changed (Value n) (rows.Object n (object_row (empty_of k) l))
+
 module _ (s : Sight) where
   -- how many messages the object holds
   abbrev pub held : ℕ
@@ -46,11 +51,9 @@ module _ (s : Sight) where
   abbrev pub now_is : Object → What → RowChange
   now_is o w = rows.Object o.0 (object_row w s.object.labels)
 
-  -- 12: "64 objects 7"; "empty or unlocked; answers number"
+  -- 12
   unfoldable pub new_object : ObjectKind → LabelPair → Outcome
-  new_object k l =
-      cond (leb most_objects s.free) (refused Full)
-      (rows_changed (Value s.free) (rows.Object s.free (object_row (empty_of k) l)))
+  new_object k l = made_at k l s.free
 
   -- 16: "8 held 7"; "appended"
   unfoldable pub put : Object → Span → Outcome

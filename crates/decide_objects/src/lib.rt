@@ -18,8 +18,8 @@ ghost use Rattle.decide_objects.specs.Objects.{
 
 use answers::{Answer, Refusal};
 use frames::requests::{ObjectKind, ObjectRequest, OutsideRequest, Span};
-use numbers::{LabelPair, OBJECTS, Object, QUEUED};
-use outcomes::{ListChange, Outcome, RowChange, StoreChange, refused, rows_changed};
+use numbers::{LabelPair, Object, QUEUED};
+use outcomes::{Outcome, RowChange, StoreChange, refused, rows_changed};
 use sight::Sight;
 use store::place_at;
 use tables::rows::{What, no_object};
@@ -30,11 +30,8 @@ fn object_changed(answer: Answer, store: StoreChange, rows: RowChange) -> Outcom
     ensures { result ≡ object_changed answer store rows }
 {
     Outcome {
-        answer,
-        links: ListChange::Keep,
-        grants: ListChange::Keep,
         store,
-        rows,
+        ..rows_changed(answer, rows)
     }
 }
 
@@ -53,9 +50,7 @@ fn empty_of(k: ObjectKind) -> What
 fn now_is(s: Sight, o: Object, what: What) -> RowChange
     ensures { result ≡ now_is s o what }
 {
-    let row = s.object;
-    let labels = row.labels;
-    RowChange::Object(o.0 as usize, object_row_of(what, labels))
+    RowChange::Object(o.0 as usize, object_row_of(what, s.object.labels))
 }
 
 // 12
@@ -63,12 +58,13 @@ fn now_is(s: Sight, o: Object, what: What) -> RowChange
 fn new_object(s: Sight, k: ObjectKind, labels: LabelPair) -> Outcome
     ensures { result ≡ new_object s k labels }
 {
-    let n = s.free;
-    if OBJECTS <= n {
-        return refused(Refusal::Full);
+    match s.free {
+        Some(n) => {
+            let row = object_row_of(empty_of(k), labels);
+            rows_changed(Answer::Value(n), RowChange::Object(n as usize, row))
+        }
+        None => refused(Refusal::Full),
     }
-    let row = object_row_of(empty_of(k), labels);
-    rows_changed(Answer::Value(n as u8), RowChange::Object(n, row))
 }
 
 fn held_of(s: Sight) -> usize
@@ -151,7 +147,8 @@ pub fn decide_outside(r: OutsideRequest) -> Outcome
     ensures { result ≡ decide_outside r }
 {
     match r {
-        OutsideRequest::SendOut(m) => rows_changed(Answer::Given(m), RowChange::Keep),
-        OutsideRequest::BringIn(m) => rows_changed(Answer::Given(m), RowChange::Keep),
+        OutsideRequest::SendOut(m) | OutsideRequest::BringIn(m) => {
+            rows_changed(Answer::Given(m), RowChange::Keep)
+        }
     }
 }

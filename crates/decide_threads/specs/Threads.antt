@@ -1,12 +1,12 @@
 -- Kinds 0A to 11 (01, "Requests"): their rows' refusals in order, and what is done. s is what the request sees, l the list of
 -- principal links, and `allowed` the answer to the question of authority, where one was asked. Assumes nothing.
-use Rattle.std.specs.Prelude.{Bool, not, cond, List, ℕ, leb, ltb}
+use Rattle.std.specs.Prelude.{Bool, not, cond, List, ℕ, Option, Some, None, leb, ltb}
 use Rattle.numbers.specs.declared.Principal.{Principal}
 use Rattle.numbers.specs.declared.Tag.{Tag}
 use Rattle.numbers.specs.declared.labels.Label.{Label}
 use Rattle.numbers.specs.declared.flow.LabelPair.{LabelPair}
 use Rattle.numbers.specs.Labels.{has, with_tag, without_tag}
-use Rattle.numbers.specs.Numbers.{most_threads, most_put_aside}
+use Rattle.numbers.specs.Numbers.{most_put_aside}
 use Rattle.frames.specs.declared.requests.ThreadRequest.{ThreadRequest}
 use Rattle.frames.specs.declared.requests.ThreadRequest.TheVariants.{IntoSecrecy, OutOfSecrecy, IntoIntegrity, OutOfIntegrity, Fork, End, Call, Return}
 use Rattle.answers.specs.declared.Answer.TheVariants.{Done, Value}
@@ -40,13 +40,17 @@ module _ (own : LabelPair) where
 unfoldable pub returned : ℕ → Outcome
 returned calls = cond (ltb calls 1) (refused Empty) (rows_changed Done rows.Return)
 
+-- 0E, where this number is the lowest free: "16 threads 7"; "copy of labels, principal P, nothing put aside; answers number"
+abbrev pub forked_to : Principal → Option ℕ → Outcome
+forked_to p None = refused Full
+forked_to p (Some n) = rows_changed (Value n) (rows.NewThread n p)
+
 module _ (s : Sight) (l : List ℕ) where
-  -- 0E: "caller does not act for P 5; 16 threads 7"; "copy of labels, principal P, nothing put aside; answers number"
+  -- 0E: "caller does not act for P 5; 16 threads 7"
   unfoldable pub fork : Principal → Outcome
   fork p =
       cond (not (caller_acts_for s l p)) (refused Authority)
-      (cond (leb most_threads s.free) (refused Full)
-      (rows_changed (Value s.free) (rows.NewThread s.free p)))
+      (forked_to p s.free)
 
   -- 10: "caller does not act for P 5; 8 put aside 7"; "caller put aside, runs as P"
   unfoldable pub call : Principal → Outcome

@@ -7,7 +7,7 @@ ghost use Rattle.decide_threads.specs.Threads.{with_labels, out_of_secrecy, into
 use answers::{Answer, Refusal};
 use decide_authority::caller_acts_for;
 use frames::requests::ThreadRequest;
-use numbers::{Label, LabelPair, PUT_ASIDE, Principal, THREADS, Tag};
+use numbers::{Label, LabelPair, PUT_ASIDE, Principal, Tag};
 use outcomes::{Outcome, RowChange, done, refused, rows_changed};
 use sight::Sight;
 
@@ -25,15 +25,13 @@ fn with_labels(secrecy: Label, integrity: Label) -> Outcome
 fn out_of_secrecy(own: LabelPair, t: Tag, allowed: bool) -> Outcome
     ensures { result ≡ out_of_secrecy own t allowed }
 {
-    let secrecy = own.secrecy;
-    let integrity = own.integrity;
-    if !secrecy.has(t) {
+    if !own.secrecy.has(t) {
         return done();
     }
     if !allowed {
         return refused(Refusal::Authority);
     }
-    with_labels(secrecy.without(t), integrity)
+    with_labels(own.secrecy.without(t), own.integrity)
 }
 
 // 0C
@@ -41,15 +39,13 @@ fn out_of_secrecy(own: LabelPair, t: Tag, allowed: bool) -> Outcome
 fn into_integrity(own: LabelPair, t: Tag, allowed: bool) -> Outcome
     ensures { result ≡ into_integrity own t allowed }
 {
-    let secrecy = own.secrecy;
-    let integrity = own.integrity;
-    if integrity.has(t) {
+    if own.integrity.has(t) {
         return done();
     }
     if !allowed {
         return refused(Refusal::Authority);
     }
-    with_labels(secrecy, integrity.with(t))
+    with_labels(own.secrecy, own.integrity.with(t))
 }
 
 // 11
@@ -71,11 +67,10 @@ fn decide_fork(s: Sight, links: &[u32], p: Principal) -> Outcome
     if !caller_acts_for(s, links, p) {
         return refused(Refusal::Authority);
     }
-    let n = s.free;
-    if THREADS <= n {
-        return refused(Refusal::Full);
+    match s.free {
+        Some(n) => rows_changed(Answer::Value(n), RowChange::NewThread(n as usize, p)),
+        None => refused(Refusal::Full),
     }
-    rows_changed(Answer::Value(n as u8), RowChange::NewThread(n, p))
 }
 
 // 10
@@ -86,8 +81,7 @@ fn decide_call(s: Sight, links: &[u32], p: Principal) -> Outcome
     if !caller_acts_for(s, links, p) {
         return refused(Refusal::Authority);
     }
-    let caller = s.caller;
-    if PUT_ASIDE <= caller.calls {
+    if PUT_ASIDE <= s.caller.calls {
         return refused(Refusal::Full);
     }
     rows_changed(Answer::Done, RowChange::Call(p))
@@ -96,18 +90,15 @@ fn decide_call(s: Sight, links: &[u32], p: Principal) -> Outcome
 pub fn decide_thread(s: Sight, links: &[u32], r: ThreadRequest, allowed: bool) -> Outcome
     ensures { result ≡ decide_thread s links.now r allowed }
 {
-    let caller = s.caller;
-    let own = caller.labels;
-    let secrecy = own.secrecy;
-    let integrity = own.integrity;
+    let own = s.caller.labels;
     match r {
-        ThreadRequest::IntoSecrecy(t) => with_labels(secrecy.with(t), integrity),
+        ThreadRequest::IntoSecrecy(t) => with_labels(own.secrecy.with(t), own.integrity),
         ThreadRequest::OutOfSecrecy(t) => out_of_secrecy(own, t, allowed),
         ThreadRequest::IntoIntegrity(t) => into_integrity(own, t, allowed),
-        ThreadRequest::OutOfIntegrity(t) => with_labels(secrecy, integrity.without(t)),
+        ThreadRequest::OutOfIntegrity(t) => with_labels(own.secrecy, own.integrity.without(t)),
         ThreadRequest::Fork(p) => decide_fork(s, links, p),
         ThreadRequest::End => rows_changed(Answer::Done, RowChange::End),
         ThreadRequest::Call(p) => decide_call(s, links, p),
-        ThreadRequest::Return => return_back(caller.calls),
+        ThreadRequest::Return => return_back(s.caller.calls),
     }
 }

@@ -21,6 +21,7 @@ use Rattle.rules.proofs.RuleLaws.{rules-but-truth}
 use Rattle.state.specs.declared.State.{State}
 use Rattle.step.specs.declared.Stepped.{Stepped}
 use Rattle.act.specs.Step.{After}
+use Rattle.monitor.specs.declared.Stop.TheVariants.{NoRoom, BrokenRule}
 use Rattle.monitor.specs.Monitor.{shortest_buffer, quiet, requested, reply_of}
 use Rattle.monitor.proofs.Entering.{when-short, when-broken, told-status, told-written, told-links, told-grants}
 use Rattle.records.specs.declared.principals.PrincipalLink.{PrincipalLink}
@@ -123,11 +124,11 @@ module _ (s : State) (b f a : List ℕ) where
     pub answer : (requested s l g b f a).answer ≡ (requested s k h b f a).answer
 
   -- what is told, by the tests
-  told-short : (l g : List ℕ) → ltb (length a) shortest_buffer ≡ true → quiet 10 ≡ reply_of s l g b f a
+  told-short : (l g : List ℕ) → ltb (length a) shortest_buffer ≡ true → quiet NoRoom ≡ reply_of s l g b f a
   unfolding reply_of
   told-short l g e = hit _ e refl
 
-  told-broken : (l g : List ℕ) → ltb (length a) shortest_buffer ≡ false → not (break_no_rule s.tables s.memory l g b) ≡ true → quiet 9 ≡ reply_of s l g b f a
+  told-broken : (l g : List ℕ) → ltb (length a) shortest_buffer ≡ false → not (break_no_rule s.tables s.memory l g b) ≡ true → quiet BrokenRule ≡ reply_of s l g b f a
   unfolding reply_of
   told-broken l g e q = skip _ e (hit _ q refl)
 

@@ -10,7 +10,6 @@ use Rattle.act.specs.Step.{Replied, After}
 use Rattle.monitor.specs.Monitor.{requested}
 use Rattle.entry.specs.declared.Reply.{Reply}
 use Rattle.entry.specs.declared.Lists.{Lists}
-use Rattle.entry.specs.declared.Answered.{Answered}
 
 -- the state s, the records ys of principal links and zs of tag links, the store b, the frame f, the answer buffer a
 abbrev pub over_records : State → List PrincipalLink → List TagLink → List ℕ → List ℕ → List ℕ → After
@@ -27,15 +26,6 @@ no_links = record { links = replicate link_places (principal_link 0); grants = r
 -- the records of the lists that it leaves
 abbrev pub lists_of : After → Lists
 lists_of r = record { links = map principal_link r.links; grants = map tag_link r.grants }
-
--- what it leaves where the state s and the lists x are the caller's own
-abbrev pub answered_of : State → Lists → List ℕ → List ℕ → List ℕ → Answered
-answered_of s x b f a =
-    record {
-      reply = reply_in (over_records s x.links x.grants b f a).replied;
-      state = (over_records s x.links x.grants b f a).replied.state;
-      lists = lists_of (over_records s x.links x.grants b f a);
-    }
 
 -- ---- how it is come to
 

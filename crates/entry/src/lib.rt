@@ -8,11 +8,11 @@
 
 ghost use Rattle.std.specs.Prelude.{◌≡◌, map};
 ghost use Rattle.records.specs.Records.{principal_link, tag_link};
-ghost use Rattle.entry.specs.Entry.{whole_places, reply_in, over_records, answered_of, no_links};
+ghost use Rattle.entry.specs.Entry.{whole_places, reply_in, over_records, no_links};
 
 use lent::counts_of;
 use monitor::reply;
-use records::{PrincipalLink, TagLink, principals, tags};
+use records::{Link, PrincipalLink, TagLink, numbered, numbers_of, put_back};
 use state::State;
 
 // "256 places each"
@@ -49,16 +49,16 @@ pub fn request(
     ensures store_after { store.new ≡ (over_records s.old links.old grants.old store.old frame.now answer.old).store }
     ensures answer_after { answer.new ≡ (over_records s.old links.old grants.old store.old frame.now answer.old).answer }
 {
-    principals::numbered(links);
-    tags::numbered(grants);
-    let numbers = principals::numbers_of(links);
-    let tag_numbers = tags::numbers_of(grants);
+    numbered(links);
+    numbered(grants);
+    let numbers = numbers_of(links);
+    let tag_numbers = numbers_of(grants);
     let n = whole_places(links.len());
     let k = whole_places(grants.len());
     let used = counts_of(s);
     let told = reply(s, &numbers[..n], &tag_numbers[..k], store, frame, answer);
-    principals::put_back(links, used.links, told.links);
-    tags::put_back(grants, used.grants, told.grants);
+    put_back(links, used.links, told.links);
+    put_back(grants, used.grants, told.grants);
     Reply {
         status: told.status,
         written: told.written,
@@ -76,39 +76,7 @@ pub struct Lists {
 pub fn no_links() -> Lists
     ensures { result ≡ no_links }
 {
-    let links = [principals::link_of(0); 256];
-    let grants = [tags::link_of(0); 256];
+    let links = [PrincipalLink::link_of(0); 256];
+    let grants = [TagLink::link_of(0); 256];
     Lists { links, grants }
-}
-
-// What a request leaves of its state and lists.
-#[derive(Clone, Copy)]
-pub struct Answered {
-    pub reply: Reply,
-    pub state: State,
-    pub lists: Lists,
-}
-
-// The request of a caller that holds its state and lists by value: they are lent for it.
-pub fn request_with(
-    s: State,
-    lists: Lists,
-    store: &mut [u8],
-    frame: &[u8],
-    answer: &mut [u8],
-) -> Answered
-    ensures value { result ≡ answered_of s lists store.old frame.now answer.old }
-    ensures store_after { store.new ≡ (over_records s lists.links lists.grants store.old frame.now answer.old).store }
-    ensures answer_after { answer.new ≡ (over_records s lists.links lists.grants store.old frame.now answer.old).answer }
-{
-    let mut state = s;
-    let mut links = lists.links;
-    let mut grants = lists.grants;
-    let reply = request(&mut state, &mut links, &mut grants, store, frame, answer);
-    let lent = Lists { links, grants };
-    Answered {
-        reply,
-        state,
-        lists: lent,
-    }
 }

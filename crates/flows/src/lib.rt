@@ -12,19 +12,12 @@ use sight::Sight;
 fn object_more(s: Sight, r: ObjectRequest) -> bool
     ensures { result ≡ object_more s r }
 {
-    let caller = s.caller;
-    let own = caller.labels;
-    let row = s.object;
-    let labels = row.labels;
+    let own = s.caller.labels;
+    let labels = s.object.labels;
     match r {
         ObjectRequest::New(_, l) => l.integrity.within(own.integrity),
         ObjectRequest::Delete(_) => own.integrity == labels.integrity,
-        ObjectRequest::ReadCell(_) => true,
-        ObjectRequest::WriteCell(_, _) => true,
-        ObjectRequest::Put(_, _) => true,
-        ObjectRequest::Get(_) => true,
-        ObjectRequest::Lock(_) => true,
-        ObjectRequest::Unlock(_) => true,
+        _ => true,
     }
 }
 
@@ -32,11 +25,9 @@ fn object_more(s: Sight, r: ObjectRequest) -> bool
 fn outside_more(s: Sight, r: OutsideRequest) -> bool
     ensures { result ≡ outside_more s r }
 {
-    let caller = s.caller;
-    let own = caller.labels;
     match r {
         OutsideRequest::SendOut(_) => true,
-        OutsideRequest::BringIn(_) => own.integrity.is_empty(),
+        OutsideRequest::BringIn(_) => s.caller.labels.integrity.is_empty(),
     }
 }
 
@@ -44,10 +35,9 @@ fn tests_more(s: Sight, r: Request) -> bool
     ensures { result ≡ more s r }
 {
     match r {
-        Request::OfAuthority(_) => true,
-        Request::OfThread(_) => true,
         Request::OfObject(a) => object_more(s, a),
         Request::OfOutside(a) => outside_more(s, a),
+        _ => true,
     }
 }
 
@@ -55,9 +45,6 @@ fn tests_more(s: Sight, r: Request) -> bool
 pub fn may_flow(s: Sight, kind: u8, r: Request) -> bool
     ensures { result ≡ flows s kind r }
 {
-    let caller = s.caller;
-    let own = caller.labels;
-    let row = s.object;
-    let labels = row.labels;
-    own.meets(need_of(kind), labels) & tests_more(s, r)
+    let own = s.caller.labels;
+    own.meets(need_of(kind), s.object.labels) & tests_more(s, r)
 }

@@ -23,7 +23,7 @@ use numbers::{Label, LabelPair, Object, Principal, Tag};
 pub fn byte_at(frame: &[u8], i: usize) -> u8
     ensures { result ≡ byte_at frame.now i }
 {
-    if i < frame.len() { frame[i] } else { 0 }
+    frame.get(i).copied().unwrap_or(0)
 }
 
 // "Labels are 8 bytes, most significant first."
@@ -64,13 +64,16 @@ fn message_at(frame: &[u8], i: usize) -> Span
     }
 }
 
-fn kind_of_object(k: u8) -> ObjectKind
-    ensures { result ≡ kind_of_object k }
-{
-    match k {
-        0 => ObjectKind::Cell,
-        1 => ObjectKind::Queue,
-        _ => ObjectKind::Lock,
+// "0 cell, 1 queue, 2 lock"; another is refused before.
+impl From<u8> for ObjectKind {
+    fn from(k: u8) -> ObjectKind
+        ensures { result ≡ kind_of_object k }
+    {
+        match k {
+            0 => ObjectKind::Cell,
+            1 => ObjectKind::Queue,
+            _ => ObjectKind::Lock,
+        }
     }
 }
 
@@ -153,7 +156,7 @@ fn request_by(frame: &[u8], kind: u8, a: u8) -> Request
         return Request::OfThread(thread_request(kind, a));
     }
     if kind < 0x13 {
-        return Request::OfObject(ObjectRequest::New(kind_of_object(a), labels_at(frame, 3)));
+        return Request::OfObject(ObjectRequest::New(ObjectKind::from(a), labels_at(frame, 3)));
     }
     if kind < 0x1A {
         return Request::OfObject(object_request(kind, a, message_at(frame, 3)));

@@ -4,31 +4,33 @@ ghost use Rattle.std.specs.Prelude.{◌≡◌};
 ghost use Rattle.frames.specs.Requests.{fixed_length, length_byte, message_length, well_formed};
 
 use crate::decode::byte_at;
-use needs::KINDS;
 use numbers::LONGEST;
 
 // How long a frame of a kind is, but for the bytes of a message.
-const LENGTHS: [u8; 28] = [
-    0, 2, 4, 4, 4, 2, 3, 5, 5, 3, 3, 3, 3, 3, 3, 2, 3, 2, 19, 3, 3, 4, 4, 3, 3, 3, 3, 3,
-];
-
-// Where the length byte of its message stands; 0 where it has none.
-const LENGTH_BYTES: [u8; 28] = [
-    0, 0, 0, 0, 0, 0, 0, 0, 0, 0, 0, 0, 0, 0, 0, 0, 0, 0, 0, 0, 0, 3, 3, 0, 0, 0, 2, 2,
-];
-
+#[tactic(auto, unfolding(crate::specs::Requests::fixed_length))]
 fn fixed_length(kind: u8) -> u8
     ensures { result ≡ fixed_length kind }
 {
-    let k = kind as usize;
-    if k < KINDS { LENGTHS[k] } else { 0 }
+    match kind {
+        0x01 | 0x05 | 0x0F | 0x11 => 2,
+        0x06 | 0x09..=0x0E | 0x10 | 0x13 | 0x14 | 0x17..=0x1B => 3,
+        0x02..=0x04 | 0x15 | 0x16 => 4,
+        0x07 | 0x08 => 5,
+        0x12 => 19,
+        _ => 0,
+    }
 }
 
+// Where the length byte of its message stands; 0 where it has none.
+#[tactic(auto, unfolding(crate::specs::Requests::length_byte))]
 fn length_byte(kind: u8) -> u8
     ensures { result ≡ length_byte kind }
 {
-    let k = kind as usize;
-    if k < KINDS { LENGTH_BYTES[k] } else { 0 }
+    match kind {
+        0x15 | 0x16 => 3,
+        0x1A | 0x1B => 2,
+        _ => 0,
+    }
 }
 
 fn message_length(frame: &[u8]) -> u8

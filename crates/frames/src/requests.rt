@@ -3,14 +3,14 @@
 use numbers::{LabelPair, Object, Principal, Tag};
 
 // Where a message stands in its frame.
-#[derive(Clone, Copy)]
+#[derive(Clone, Copy, PartialEq, Eq)]
 pub struct Span {
     pub at: usize,
     pub len: usize,
 }
 
 // "of kind 0 cell, 1 queue, 2 lock"
-#[derive(Clone, Copy)]
+#[derive(Clone, Copy, PartialEq, Eq)]
 pub enum ObjectKind {
     Cell,
     Queue,
@@ -18,7 +18,7 @@ pub enum ObjectKind {
 }
 
 // 01 to 09
-#[derive(Clone, Copy)]
+#[derive(Clone, Copy, PartialEq, Eq)]
 pub enum AuthorityRequest {
     NewPrincipal,
     Delegate(Principal, Principal),
@@ -32,7 +32,7 @@ pub enum AuthorityRequest {
 }
 
 // 0A to 11
-#[derive(Clone, Copy)]
+#[derive(Clone, Copy, PartialEq, Eq)]
 pub enum ThreadRequest {
     IntoSecrecy(Tag),
     OutOfSecrecy(Tag),
@@ -45,7 +45,7 @@ pub enum ThreadRequest {
 }
 
 // 12 to 19
-#[derive(Clone, Copy)]
+#[derive(Clone, Copy, PartialEq, Eq)]
 pub enum ObjectRequest {
     New(ObjectKind, LabelPair),
     Delete(Object),
@@ -58,13 +58,13 @@ pub enum ObjectRequest {
 }
 
 // 1A and 1B
-#[derive(Clone, Copy)]
+#[derive(Clone, Copy, PartialEq, Eq)]
 pub enum OutsideRequest {
     SendOut(Span),
     BringIn(Span),
 }
 
-#[derive(Clone, Copy)]
+#[derive(Clone, Copy, PartialEq, Eq)]
 pub enum Request {
     OfAuthority(AuthorityRequest),
     OfThread(ThreadRequest),

@@ -27,37 +27,22 @@ pub struct Counts {
 
 // ---- what is read
 
-#[tactic(auto, using(std::proofs::lemmas::List::get_or_past))]
 pub fn thread_at(s: &State, n: usize) -> ThreadRow
     ensures { result ≡ get_or s.now.tables.threads n no_thread }
 {
-    let rows: &[ThreadRow] = &s.tables.threads;
-    if n < rows.len() {
-        return rows[n];
-    }
-    no_thread()
+    s.tables.threads.get(n).copied().unwrap_or(no_thread())
 }
 
-#[tactic(auto, using(std::proofs::lemmas::List::get_or_past))]
 pub fn tag_at(s: &State, n: usize) -> TagRow
     ensures { result ≡ tag_at s.now.tables.kinds n }
 {
-    let rows: &[TagRow] = &s.tables.kinds;
-    if n < rows.len() {
-        return rows[n];
-    }
-    no_tag()
+    s.tables.kinds.get(n).copied().unwrap_or(no_tag())
 }
 
-#[tactic(auto, using(std::proofs::lemmas::List::get_or_past))]
 pub fn object_at(s: &State, n: usize) -> ObjectRow
     ensures { result ≡ object_at s.now.tables.objects n }
 {
-    let rows: &[ObjectRow] = &s.tables.objects;
-    if n < rows.len() {
-        return rows[n];
-    }
-    no_object()
+    s.tables.objects.get(n).copied().unwrap_or(no_object())
 }
 
 pub fn counts_of(s: &State) -> Counts
@@ -87,19 +72,6 @@ pub fn place_of(s: &State, n: usize, x: u32) -> Option<usize>
     ensures { result ≡ find_in (take n s.now.memory.pairs) x }
 {
     memory::place(&s.memory.pairs, n, x)
-}
-
-// A copy of a whole table, for the lowest free number.
-pub fn threads(s: &State) -> [ThreadRow; 16]
-    ensures { result ≡ s.now.tables.threads }
-{
-    s.tables.threads
-}
-
-pub fn objects(s: &State) -> [ObjectRow; 64]
-    ensures { result ≡ s.now.tables.objects }
-{
-    s.tables.objects
 }
 
 // A copy of all of it, for the check of 9.

@@ -3,27 +3,18 @@
 use mathlib.Core.Path.{◌≡◌, refl, ap, ap₂}
 use mathlib.Core.Bool.{true, ◌&&◌, and-true, and_assoc}
 use mathlib.Core.List.{List, [], ◌∷◌, ◌++◌, append_assoc}
-use Prim.Native.Nat.{ℕ, suc, ◌+◌, ◌/◌, ◌%◌, ◌≤◌, ◌<◌}
+use Prim.Native.Nat.{ℕ, suc, ◌+◌, ◌/◌, ◌%◌, ◌<◌}
 use native.Mathlib.Numerals.{add-one}
 use native.Mathlib.Omega.{arith}
-use borrow.Author.Tests.{eqb-true, leb-true, lt-ltb}
-use lib.Dec.{eqb, ltb, leb}
+use borrow.Author.Tests.{lt-ltb}
+use lib.Dec.{ltb}
 use lib.ListN.{length, get_or, take}
 use lib.Seq.{length-take-le, take-suc}
-use Rattle.numbers.proofs.Bools.{and_left, and_right}
 use Rattle.lines.specs.Digits.{digit_of, glyph_of, digits_of}
-use Rattle.lines.specs.Lines.{byte_of, frame_of, all_digits, right_length, digits_in}
+use Rattle.lines.specs.Lines.{byte_of, frame_of, all_digits, digits_in}
 use Rattle.lines.proofs.DigitLaws.{digit_glyph, digits-byte}
 
 -- ---- a line that is read
-
--- a line of the right length is of whole bytes, and they fit a frame
-pub right-length : (z : List ℕ) → right_length z ≡ true → (length z % 2 ≡ 0) × (length z ≤ 72)
-right-length z e =
-    let n = length z in (
-      eqb-true (n % 2) 0 (and_left (eqb (n % 2) 0) (ltb 0 n && leb n 72) e),
-      leb-true n 72 (and_right (ltb 0 n) (leb n 72) (and_right (eqb (n % 2) 0) (ltb 0 n && leb n 72) e)),
-    )
 
 -- a frame has half as many bytes as its line
 pub frame-length : (z : List ℕ) → length (frame_of z) ≡ length z / 2

@@ -7,4 +7,4 @@ mod reader;
 
 pub use digits::{Digits, NO_DIGIT, digit_of, digits_of};
 pub use line::{LINE_FEED, frame_of, put_line};
-pub use reader::{FrameReader, ReadByte, done, is_read, next_byte, read_byte, reader_at};
+pub use reader::{FrameReader, ReadByte, is_read, read_byte};

@@ -6,7 +6,7 @@ ghost use Rattle.store.specs.Store.{over};
 ghost use Rattle.lines.specs.Lines.{frame_of, all_digits, right_length, is_frame, line_of};
 
 use crate::digits::digits_of;
-use crate::reader::{is_read, read_byte};
+use crate::reader::read_byte;
 
 // What ends a line.
 pub const LINE_FEED: u8 = 10;
@@ -21,11 +21,7 @@ pub fn frame_of(line: &[u8], frame: &mut [u8; 36]) -> bool
     ensures frame_after { frame.new ≡ cond (right_length line.now) (over frame.old 0 (frame_of line.now)) frame.old }
 {
     let n = line.len();
-    if (n % 2 == 0) & ((1 <= n) & (n <= LONGEST_LINE)) {
-        read_digits(line, frame)
-    } else {
-        false
-    }
+    (n % 2 == 0) && (1..=LONGEST_LINE).contains(&n) && read_digits(line, frame)
 }
 
 // Reads the bytes of a line, each from its two digits, and answers whether all were digits.
@@ -35,12 +31,10 @@ fn read_digits(line: &[u8], frame: &mut [u8]) -> bool
     ensures frame_after { frame.new ≡ over frame.old 0 (frame_of line.now) }
 {
     let mut ok = true;
-    let mut i = 0;
-    while !is_read(line, i) {
-        let b = read_byte(line, i);
-        frame[i / 2] = b.value;
-        ok = ok & b.digits;
-        i += 2;
+    for k in 0..line.len() / 2 {
+        let b = read_byte(line, 2 * k);
+        frame[k] = b.value;
+        ok &= b.digits;
     }
     ok
 }
@@ -50,14 +44,11 @@ pub fn put_line(bytes: &[u8], out: &mut [u8], at: usize)
     requires { at + (length bytes.now + length bytes.now) + 1 ≤ length out.old }
     ensures { out.new ≡ over out.old at (line_of bytes.now) }
 {
-    let n = bytes.len();
-    let mut i = 0;
-    while i < n {
-        let d = digits_of(bytes[i]);
+    for (i, byte) in bytes.iter().enumerate() {
+        let digits = digits_of(*byte);
         let k = at + 2 * i;
-        out[k] = d.high;
-        out[k + 1] = d.low;
-        i += 1;
+        out[k] = digits.high;
+        out[k + 1] = digits.low;
     }
-    out[at + 2 * n] = LINE_FEED;
+    out[at + 2 * bytes.len()] = LINE_FEED;
 }

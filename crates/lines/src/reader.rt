@@ -40,26 +40,28 @@ fn over_at(line: &[u8], at: usize) -> bool
     if at < n { n - at < 2 } else { true }
 }
 
-// A reader of a line, from a place on.
-pub fn reader_at<'a>(line: &'a [u8], at: usize) -> FrameReader<'a>
-    ensures { (result.line ≡ line.entry) × (result.at ≡ at) }
-{
-    FrameReader { line, at }
-}
+impl<'a> FrameReader<'a> {
+    // A reader of a line, from a place on.
+    pub fn new(line: &'a [u8], at: usize) -> FrameReader<'a>
+        ensures { (result.line ≡ line.entry) × (result.at ≡ at) }
+    {
+        FrameReader { line, at }
+    }
 
-// The byte at its place.
-pub fn next_byte<'a>(r: FrameReader<'a>) -> ReadByte
-    requires { r.at + 1 < length r.line.now }
-    ensures { result ≡ read_byte r.entry.line.now r.entry.at }
-{
-    pair_at(r.line, r.at)
-}
+    // The byte at its place.
+    pub fn next_byte(self) -> ReadByte
+        requires { self.at + 1 < length self.line.now }
+        ensures { result ≡ read_byte self.entry.line.now self.entry.at }
+    {
+        pair_at(self.line, self.at)
+    }
 
-// No byte is left to it.
-pub fn done<'a>(r: FrameReader<'a>) -> bool
-    ensures { result ≡ no_byte_at r.entry.line.now r.entry.at }
-{
-    over_at(r.line, r.at)
+    // No byte is left to it.
+    pub fn done(self) -> bool
+        ensures { result ≡ no_byte_at self.entry.line.now self.entry.at }
+    {
+        over_at(self.line, self.at)
+    }
 }
 
 // The byte that a reader at the place reads.
@@ -67,12 +69,12 @@ pub fn read_byte(line: &[u8], at: usize) -> ReadByte
     requires { at + 1 < length line.now }
     ensures { result ≡ read_byte line.now at }
 {
-    next_byte(reader_at(line, at))
+    FrameReader::new(line, at).next_byte()
 }
 
 // A reader at the place has no byte left.
 pub fn is_read(line: &[u8], at: usize) -> bool
     ensures { result ≡ no_byte_at line.now at }
 {
-    done(reader_at(line, at))
+    FrameReader::new(line, at).done()
 }

@@ -6,10 +6,10 @@ use Prim.Native.Nat.{ℕ, ◌/◌, ◌%◌, ◌≤◌}
 use native.Mathlib.Omega.{arith}
 use lib.ListN.{get_or}
 use Rattle.numbers.proofs.Below.{all-each}
-use Rattle.numbers.proofs.Says.{leb-is, ltb-is, and_is}
+use Rattle.numbers.proofs.Says.{ltb-is, and_is}
 use Rattle.link_rules.specs.Filling.{Placed}
 use Rattle.link_rules.proofs.FillLaws.{tag-parts}
-use Rattle.memory_rules.specs.MemoryRules.{pair_made, pairs_made, size_holds}
+use Rattle.memory_rules.specs.MemoryRules.{pair_made, pairs_made}
 
 pub pairs-placed : (l : List ℕ) (n tags principals : ℕ) → tags ≤ 64 → principals ≤ 64 → pairs_made l n tags principals ≡ true → Placed l n 1
 unfolding pairs_made
@@ -18,7 +18,3 @@ pairs-placed l n tags principals h g e i low =
     let w = (and_is (ltb-is (x / 256) principals) (ltb-is (x % 256) tags)).0 (all-each n (λ k. pair_made tags principals (get_or l k 0)) e i low) in
     let parts = tag-parts x in
     (omega (arith, w.0, parts), omega (arith, w.0, parts), omega (arith, w.1))
-
--- a memory within its size has room for what it holds
-pub held_fits : (size held : ℕ) → size_holds size held ≡ true → held ≤ 64
-held_fits size held e = let w = (and_is (leb-is size 64) (leb-is held size)).0 e in omega (arith, w.0, w.1)

@@ -7,28 +7,23 @@ ghost use Rattle.memory_rules.specs.MemoryRules.{pairs_made, pairs_hold, size_ho
 use link_rules::none_doubled;
 use memory::Memory;
 use numbers::REMEMBERED;
-use store::zero_numbers;
+use store::zeros;
 
 // "An unmade number": neither half of the first n pairs is one.
 fn pairs_made(pairs: &[u32], n: usize, tags: u32, principals: u32) -> bool
     requires { n ≤ length pairs.now }
     ensures { result ≡ pairs_made pairs.now n tags principals }
 {
-    let mut ok = true;
-    let mut i = 0;
-    while i < n {
-        let x = pairs[i];
-        ok = ((x / 256 < principals) & (x % 256 < tags)) & ok;
-        i += 1;
-    }
-    ok
+    pairs[..n]
+        .iter()
+        .all(|x| (x / 256 < principals) & (x % 256 < tags))
 }
 
 // "Over 64 or over-size memory"
 fn size_holds(size: usize, held: usize) -> bool
     ensures { result ≡ size_holds size held }
 {
-    (size <= REMEMBERED) & (held <= size)
+    size <= REMEMBERED && held <= size
 }
 
 // The first n pairs are made, the others are zero, and none stands twice.
@@ -37,22 +32,17 @@ fn pairs_hold(pairs: &[u32], n: usize, tags: u32, principals: u32) -> bool
     requires tags_bound { (tags ≤ 64) × (principals ≤ 64) }
     ensures { result ≡ pairs_hold pairs.now n tags principals }
 {
-    if !pairs_made(pairs, n, tags, principals) {
-        return false;
-    }
-    let unused = zero_numbers(pairs, n, REMEMBERED - n);
-    unused & none_doubled(pairs, n)
+    pairs_made(pairs, n, tags, principals)
+        && zeros(pairs, n, REMEMBERED - n)
+        && none_doubled(pairs, n)
 }
 
 // The memory obeys every rule of 9 that speaks of it, but for its truth.
-pub fn memory_holds(m: Memory, tags: u32, principals: u32) -> bool
+pub fn memory_holds(m: &Memory, tags: u32, principals: u32) -> bool
     requires { (tags ≤ 64) × (principals ≤ 64) }
-    ensures { result ≡ memory_holds m tags principals }
+    ensures { result ≡ memory_holds m.now tags principals }
 {
-    if !size_holds(m.size, m.held) {
-        return false;
-    }
-    let pairs = m.pairs;
-    let sound = pairs_hold(&pairs, m.held, tags, principals);
-    sound & (m.hits <= m.questions)
+    size_holds(m.size, m.held)
+        && pairs_hold(&m.pairs, m.held, tags, principals)
+        && m.hits <= m.questions
 }

@@ -1,11 +1,13 @@
 -- The single-request entry (01, "Refusal numbers"): 10, then 9, then the step behind them. Assumes nothing.
-use Rattle.std.specs.Prelude.{not, cond, List, ℕ, eqb, ltb, length}
+use Rattle.std.specs.Prelude.{not, cond, List, ℕ, ltb, length}
 use Rattle.answers.specs.declared.Answer.TheVariants.{Refused}
-use Rattle.answers.specs.declared.Refusal.TheVariants.{BrokenRule}
+use Rattle.answers.specs.declared.Refusal.TheVariants as refusal
 use Rattle.answers.specs.Answers.{answer_bytes}
 use Rattle.rules.specs.Tested.{break_no_rule}
 use Rattle.state.specs.declared.State.{State}
 use Rattle.outcomes.specs.declared.ListChange.TheVariants.{Keep}
+use Rattle.monitor.specs.declared.Stop.{Stop}
+use Rattle.monitor.specs.declared.Stop.TheVariants.{NoRoom, BrokenRule}
 use Rattle.step.specs.declared.Stepped.{Stepped}
 use Rattle.act.specs.Step.{After, answered_with, before, stepped}
 use Rattle.step.specs.Look.{step_of}
@@ -15,8 +17,9 @@ abbrev pub shortest_buffer : ℕ
 shortest_buffer = 34
 
 -- 10 or 9: the one byte of 9 is written, and nothing changes in the lists
-abbrev pub quiet : ℕ → Stepped
-quiet n = record { status = n; written = cond (eqb n 9) 1 0; links = Keep; grants = Keep }
+abbrev pub quiet : Stop → Stepped
+quiet NoRoom = record { status = 10; written = 0; links = Keep; grants = Keep }
+quiet BrokenRule = record { status = 9; written = 1; links = Keep; grants = Keep }
 
 -- the state s, the lists l of principal links and g of tag links, the store b, the frame f, the answer buffer a
 module _ (s : State) (l g b f a : List ℕ) where
@@ -26,7 +29,7 @@ module _ (s : State) (l g b f a : List ℕ) where
 
   -- 9: "the tables break a rule"; "A refusal writes its one byte .. Tables stay"
   abbrev pub broken : After
-  broken = answered_with (before s l g b) s.memory (Refused BrokenRule) (answer_bytes f b (Refused BrokenRule)) a
+  broken = answered_with (before s l g b) s.memory (Refused refusal.BrokenRule) (answer_bytes f b (Refused refusal.BrokenRule)) a
 
   unfoldable pub requested : After
   requested =
@@ -37,13 +40,6 @@ module _ (s : State) (l g b f a : List ℕ) where
   -- what it gives beside the lent buffers, and what changes in the lists
   unfoldable pub reply_of : Stepped
   reply_of =
-      cond (ltb (length a) shortest_buffer) (quiet 10)
-      (cond (not (break_no_rule s.tables s.memory l g b)) (quiet 9)
+      cond (ltb (length a) shortest_buffer) (quiet NoRoom)
+      (cond (not (break_no_rule s.tables s.memory l g b)) (quiet BrokenRule)
       (step_of s l g b f a))
-
-  -- 10, then 9: the number, or 0 where the request goes on; and the answer buffer then
-  unfoldable pub stop_of : ℕ
-  stop_of = cond (ltb (length a) shortest_buffer) 10 (cond (not (break_no_rule s.tables s.memory l g b)) 9 0)
-
-  unfoldable pub stop_answer : List ℕ
-  stop_answer = cond (ltb (length a) shortest_buffer) a (cond (not (break_no_rule s.tables s.memory l g b)) broken.answer a)

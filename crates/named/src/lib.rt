@@ -38,61 +38,40 @@ fn tag_made(s: Sight, t: Tag) -> bool
 fn is_supertag(l: Lineage) -> bool
     ensures { result ≡ is_supertag l }
 {
-    match l {
-        Lineage::Supertag(_) => true,
-        Lineage::Subtag(_, _) => false,
-    }
+    matches!(l, Lineage::Supertag(_))
 }
 
 fn is_cell(what: What) -> bool
     ensures { result ≡ is_cell what }
 {
-    match what {
-        What::Free => false,
-        What::Cell => true,
-        What::Queue(_) => false,
-        What::Lock(_) => false,
-    }
+    matches!(what, What::Cell)
 }
 
 fn is_queue(what: What) -> bool
     ensures { result ≡ is_queue what }
 {
-    match what {
-        What::Free => false,
-        What::Cell => false,
-        What::Queue(_) => true,
-        What::Lock(_) => false,
-    }
+    matches!(what, What::Queue(_))
 }
 
 fn is_lock(what: What) -> bool
     ensures { result ≡ is_lock what }
 {
-    match what {
-        What::Free => false,
-        What::Cell => false,
-        What::Queue(_) => false,
-        What::Lock(_) => true,
-    }
+    matches!(what, What::Lock(_))
 }
 
 // 01 to 09 name only what is made; 06 names a supertag.
 fn authority_named(s: Sight, r: AuthorityRequest) -> bool
     ensures { result ≡ authority_named s r }
 {
-    let lineage = s.lineage;
     match r {
-        AuthorityRequest::NewPrincipal => true,
-        AuthorityRequest::Delegate(p, q) => principal_made(s, p) & principal_made(s, q),
-        AuthorityRequest::Revoke(p, q) => principal_made(s, p) & principal_made(s, q),
-        AuthorityRequest::ActsFor(p, q) => principal_made(s, p) & principal_made(s, q),
-        AuthorityRequest::NewTag => true,
-        AuthorityRequest::NewSubtag(t) => tag_made(s, t) & is_supertag(lineage),
-        AuthorityRequest::Grant(t, p, q) => tag_made(s, t)
-            & (principal_made(s, p) & principal_made(s, q)),
-        AuthorityRequest::Ungrant(t, p, q) => tag_made(s, t)
-            & (principal_made(s, p) & principal_made(s, q)),
+        AuthorityRequest::NewPrincipal | AuthorityRequest::NewTag => true,
+        AuthorityRequest::Delegate(p, q)
+        | AuthorityRequest::Revoke(p, q)
+        | AuthorityRequest::ActsFor(p, q) => principal_made(s, p) & principal_made(s, q),
+        AuthorityRequest::NewSubtag(t) => tag_made(s, t) & is_supertag(s.lineage),
+        AuthorityRequest::Grant(t, p, q) | AuthorityRequest::Ungrant(t, p, q) => {
+            tag_made(s, t) & (principal_made(s, p) & principal_made(s, q))
+        }
         AuthorityRequest::Authoritative(t) => tag_made(s, t),
     }
 }
@@ -102,14 +81,12 @@ fn thread_named(s: Sight, r: ThreadRequest) -> bool
     ensures { result ≡ thread_named s r }
 {
     match r {
-        ThreadRequest::IntoSecrecy(t) => tag_made(s, t),
-        ThreadRequest::OutOfSecrecy(t) => tag_made(s, t),
-        ThreadRequest::IntoIntegrity(t) => tag_made(s, t),
-        ThreadRequest::OutOfIntegrity(t) => tag_made(s, t),
-        ThreadRequest::Fork(p) => principal_made(s, p),
-        ThreadRequest::End => true,
-        ThreadRequest::Call(p) => principal_made(s, p),
-        ThreadRequest::Return => true,
+        ThreadRequest::IntoSecrecy(t)
+        | ThreadRequest::OutOfSecrecy(t)
+        | ThreadRequest::IntoIntegrity(t)
+        | ThreadRequest::OutOfIntegrity(t) => tag_made(s, t),
+        ThreadRequest::Fork(p) | ThreadRequest::Call(p) => principal_made(s, p),
+        ThreadRequest::End | ThreadRequest::Return => true,
     }
 }
 
@@ -117,19 +94,15 @@ fn thread_named(s: Sight, r: ThreadRequest) -> bool
 fn object_fits(s: Sight, r: ObjectRequest) -> bool
     ensures { result ≡ object_fits s r }
 {
-    let row = s.object;
-    let what = what_of(row);
+    let what = what_of(s.object);
     let tags = s.tags as usize;
     match r {
         ObjectRequest::New(_, l) => l.secrecy.names_only_made(tags)
             & l.integrity.names_only_made(tags),
         ObjectRequest::Delete(_) => !is_free(what),
-        ObjectRequest::ReadCell(_) => is_cell(what),
-        ObjectRequest::WriteCell(_, _) => is_cell(what),
-        ObjectRequest::Put(_, _) => is_queue(what),
-        ObjectRequest::Get(_) => is_queue(what),
-        ObjectRequest::Lock(_) => is_lock(what),
-        ObjectRequest::Unlock(_) => is_lock(what),
+        ObjectRequest::ReadCell(_) | ObjectRequest::WriteCell(_, _) => is_cell(what),
+        ObjectRequest::Put(_, _) | ObjectRequest::Get(_) => is_queue(what),
+        ObjectRequest::Lock(_) | ObjectRequest::Unlock(_) => is_lock(what),
     }
 }
 

@@ -12,7 +12,7 @@ use numbers::Need;
 // Kinds 01 to 1B are known; 00 is not.
 pub const KINDS: usize = 28;
 
-const NEEDS: [Need; 28] = [
+const NEEDS: [Need; KINDS] = [
     Need::None, // 00 is no kind
     Need::Null, // 01 new principal
     Need::Null, // 02 delegate
@@ -44,10 +44,8 @@ const NEEDS: [Need; 28] = [
 ];
 
 // What a kind needs of the flow. A kind that is not known needs nothing: it is refused before.
-#[tactic(auto, using(crate::proofs::KindLaws::unknown_needs_none, crate::proofs::KindLaws::known_needs))]
 pub fn need_of(kind: u8) -> Need
     ensures { result ≡ need_of kind }
 {
-    let k = kind as usize;
-    if k < KINDS { NEEDS[k] } else { Need::None }
+    NEEDS.get(kind as usize).copied().unwrap_or(Need::None)
 }

@@ -5,7 +5,7 @@
 ghost use Rattle.std.specs.Prelude.{◌≡◌};
 ghost use Rattle.object_rules.specs.ObjectRules.{what_in_limits, object_numbers_in_limits, numbers_unused, what_labels, object_holds, objects_hold};
 
-use numbers::{LOCK, LabelPair, OBJECTS, QUEUED};
+use numbers::{LOCK, LabelPair, QUEUED};
 use tables::fields::{is_flag, labels_empty, labels_made};
 use tables::rows::{ObjectRow, What};
 use tables::says::{is_free, is_live, what_of};
@@ -15,24 +15,22 @@ fn what_in_limits(what: What) -> bool
     ensures { result ≡ what_in_limits what }
 {
     match what {
-        What::Free => true,
-        What::Cell => true,
         What::Queue(held) => held <= QUEUED,
-        What::Lock(_) => true,
+        _ => true,
     }
 }
 
 // "A limit": the flags, and the kind of an object in use.
-fn numbers_in_limits(row: ObjectRow) -> bool
-    ensures { result ≡ object_numbers_in_limits row }
+fn numbers_in_limits(row: &ObjectRow) -> bool
+    ensures { result ≡ object_numbers_in_limits row.now }
 {
     let used = is_flag(row.locked) & (row.kind <= LOCK);
     is_flag(row.live) & (!is_live(row.live) | used)
 }
 
 // "Nonzero unused place": what belongs to another kind of object is zero.
-fn numbers_unused(what: What, row: ObjectRow) -> bool
-    ensures { result ≡ numbers_unused what row }
+fn numbers_unused(what: What, row: &ObjectRow) -> bool
+    ensures { result ≡ numbers_unused what row.now }
 {
     match what {
         What::Free => (row.kind == 0) & ((row.held == 0) & (row.locked == 0)),
@@ -47,30 +45,25 @@ fn labels_hold(what: What, labels: LabelPair, tags: u32) -> bool
     ensures { result ≡ what_labels tags what labels }
 {
     if is_free(what) {
-        return labels_empty(labels);
+        labels_empty(labels)
+    } else {
+        labels_made(labels, tags)
     }
-    labels_made(labels, tags)
 }
 
 // One row of an object obeys them all.
-fn object_holds(row: ObjectRow, tags: u32) -> bool
-    ensures { result ≡ object_holds tags row }
+#[tactic(auto, unfolding(crate::specs::ObjectRules::object_holds))]
+fn object_holds(row: &ObjectRow, tags: u32) -> bool
+    ensures { result ≡ object_holds tags row.now }
 {
-    let what = what_of(row);
+    let what = what_of(*row);
     let limits = numbers_in_limits(row) & what_in_limits(what);
     let unused = numbers_unused(what, row);
     limits & (unused & labels_hold(what, row.labels, tags))
 }
 
-pub fn objects_hold(rows: [ObjectRow; 64], tags: u32) -> bool
-    ensures { result ≡ objects_hold tags rows }
+pub fn objects_hold(rows: &[ObjectRow; 64], tags: u32) -> bool
+    ensures { result ≡ objects_hold tags rows.now }
 {
-    let mut ok = true;
-    let mut i = 0;
-    while i < OBJECTS {
-        let row = rows[i];
-        ok = object_holds(row, tags) & ok;
-        i += 1;
-    }
-    ok
+    rows.iter().all(|row| object_holds(row, tags))
 }

@@ -11,7 +11,7 @@ use numbers::{LabelPair, Principal};
 use tables::rows::{ObjectRow, TagRow};
 
 // A lent list gets a link more, or loses the one at a place.
-#[derive(Clone, Copy)]
+#[derive(Clone, Copy, PartialEq, Eq)]
 pub enum ListChange {
     Keep,
     Append(u32),
@@ -20,7 +20,7 @@ pub enum ListChange {
 
 // A message is put at a place, an object's first is taken, or all its places are freed. Places are given by
 // where they begin.
-#[derive(Clone, Copy)]
+#[derive(Clone, Copy, PartialEq, Eq)]
 pub enum StoreChange {
     Keep,
     Put(usize, Span),
@@ -29,7 +29,7 @@ pub enum StoreChange {
 }
 
 // One row changes, or one is new. Where none is named, it is the caller's own.
-#[derive(Clone, Copy)]
+#[derive(Clone, Copy, PartialEq, Eq)]
 pub enum RowChange {
     Keep,
     NewPrincipal,
@@ -42,7 +42,7 @@ pub enum RowChange {
     Object(usize, ObjectRow),
 }
 
-#[derive(Clone, Copy)]
+#[derive(Clone, Copy, PartialEq, Eq)]
 pub struct Outcome {
     pub answer: Answer,
     pub links: ListChange,
@@ -51,15 +51,35 @@ pub struct Outcome {
     pub rows: RowChange,
 }
 
+// Done, and nothing changes.
+pub fn done() -> Outcome
+    ensures { result ≡ done }
+{
+    Outcome {
+        answer: Answer::Done,
+        links: ListChange::Keep,
+        grants: ListChange::Keep,
+        store: StoreChange::Keep,
+        rows: RowChange::Keep,
+    }
+}
+
 pub fn refused(r: Refusal) -> Outcome
     ensures { result ≡ refused r }
 {
     Outcome {
         answer: Answer::Refused(r),
-        links: ListChange::Keep,
-        grants: ListChange::Keep,
-        store: StoreChange::Keep,
-        rows: RowChange::Keep,
+        ..done()
+    }
+}
+
+// A yes or no, or a number; nothing changes.
+pub fn told(v: u8) -> Outcome
+    ensures { result ≡ told v }
+{
+    Outcome {
+        answer: Answer::Value(v),
+        ..done()
     }
 }
 
@@ -69,38 +89,16 @@ pub fn rows_changed(answer: Answer, rows: RowChange) -> Outcome
 {
     Outcome {
         answer,
-        links: ListChange::Keep,
-        grants: ListChange::Keep,
-        store: StoreChange::Keep,
         rows,
+        ..done()
     }
-}
-
-// Done, and nothing changes.
-pub fn done() -> Outcome
-    ensures { result ≡ done }
-{
-    rows_changed(Answer::Done, RowChange::Keep)
-}
-
-// A yes or no, or a number; nothing changes.
-pub fn told(v: u8) -> Outcome
-    ensures { result ≡ told v }
-{
-    rows_changed(Answer::Value(v), RowChange::Keep)
 }
 
 // Done; the list of principal links changes.
 pub fn links_changed(c: ListChange) -> Outcome
     ensures { result ≡ links_changed c }
 {
-    Outcome {
-        answer: Answer::Done,
-        links: c,
-        grants: ListChange::Keep,
-        store: StoreChange::Keep,
-        rows: RowChange::Keep,
-    }
+    Outcome { links: c, ..done() }
 }
 
 // Done; the list of tag links changes.
@@ -108,10 +106,7 @@ pub fn grants_changed(c: ListChange) -> Outcome
     ensures { result ≡ grants_changed c }
 {
     Outcome {
-        answer: Answer::Done,
-        links: ListChange::Keep,
         grants: c,
-        store: StoreChange::Keep,
-        rows: RowChange::Keep,
+        ..done()
     }
 }

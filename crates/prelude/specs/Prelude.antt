@@ -1,6 +1,6 @@
 -- Refusals 2, 3 and 4 (01, "Refusal numbers"), which come before those of a kind's own row, and whether a request asks for authority.
 -- Assumes nothing.
-use Rattle.std.specs.Prelude.{Bool, true, false, not, cond, ℕ}
+use Rattle.std.specs.Prelude.{Bool, true, false, not, cond, ℕ, Result, Ok, Err}
 use Rattle.numbers.specs.Labels.{has}
 use Rattle.frames.specs.declared.requests.AuthorityRequest.{AuthorityRequest}
 use Rattle.frames.specs.declared.requests.AuthorityRequest.TheVariants.{NewPrincipal, Delegate, Revoke, ActsFor, NewTag, NewSubtag, Grant, Ungrant, Authoritative}
@@ -8,21 +8,20 @@ use Rattle.frames.specs.declared.requests.ThreadRequest.{ThreadRequest}
 use Rattle.frames.specs.declared.requests.ThreadRequest.TheVariants.{IntoSecrecy, OutOfSecrecy, IntoIntegrity, OutOfIntegrity, Fork, End, Call, Return}
 use Rattle.frames.specs.declared.requests.Request.{Request}
 use Rattle.frames.specs.declared.requests.Request.TheVariants.{OfAuthority, OfThread, OfObject, OfOutside}
+use Rattle.answers.specs.declared.Refusal.{Refusal}
 use Rattle.answers.specs.declared.Refusal.TheVariants.{NotLive, Unnamed, Flow}
 use Rattle.sight.specs.declared.Sight.{Sight}
 use Rattle.named.specs.Named.{named}
 use Rattle.flows.specs.Flows.{flows}
-use Rattle.prelude.specs.declared.Checked.{Checked}
-use Rattle.prelude.specs.declared.Checked.TheVariants.{Passed, Stopped}
 
--- ---- 2, 3, 4 in order
+-- ---- 2, 3, 4 in order: no refusal, or one
 
-unfoldable pub prelude : Sight → ℕ → Request → Checked
+unfoldable pub prelude : Sight → ℕ → Request → Result Unit Refusal
 prelude s k r =
-    cond (not s.caller.live) (Stopped NotLive)
-    (cond (not (named s r)) (Stopped Unnamed)
-    (cond (not (flows s k r)) (Stopped Flow)
-    Passed))
+    cond (not s.caller.live) (Err NotLive)
+    (cond (not (named s r)) (Err Unnamed)
+    (cond (not (flows s k r)) (Err Flow)
+    (Ok tt)))
 
 -- ---- "A question .. is asked by 06, 09, 0B and 0C, once, when the authority check is reached"
 

@@ -12,60 +12,40 @@ use named::is_named;
 use sight::Sight;
 
 // No refusal, or one.
-#[derive(Clone, Copy)]
-pub enum Checked {
-    Passed,
-    Stopped(Refusal),
-}
-
 #[tactic(auto, unfolding(crate::specs::Prelude::prelude))]
-pub fn check(s: Sight, kind: u8, r: Request) -> Checked
+pub fn check(s: Sight, kind: u8, r: Request) -> Result<(), Refusal>
     ensures { result ≡ prelude s kind r }
 {
-    let caller = s.caller;
-    if !caller.live {
-        return Checked::Stopped(Refusal::NotLive);
+    if !s.caller.live {
+        return Err(Refusal::NotLive);
     }
     if !is_named(s, r) {
-        return Checked::Stopped(Refusal::Unnamed);
+        return Err(Refusal::Unnamed);
     }
     if !may_flow(s, kind, r) {
-        return Checked::Stopped(Refusal::Flow);
+        return Err(Refusal::Flow);
     }
-    Checked::Passed
+    Ok(())
 }
 
 fn authority_asks(r: AuthorityRequest) -> bool
     ensures { result ≡ authority_asks r }
 {
-    match r {
-        AuthorityRequest::NewPrincipal => false,
-        AuthorityRequest::Delegate(_, _) => false,
-        AuthorityRequest::Revoke(_, _) => false,
-        AuthorityRequest::ActsFor(_, _) => false,
-        AuthorityRequest::NewTag => false,
-        AuthorityRequest::NewSubtag(_) => true,
-        AuthorityRequest::Grant(_, _, _) => false,
-        AuthorityRequest::Ungrant(_, _, _) => false,
-        AuthorityRequest::Authoritative(_) => true,
-    }
+    matches!(
+        r,
+        AuthorityRequest::NewSubtag(_) | AuthorityRequest::Authoritative(_)
+    )
 }
 
 // 0B asks where T is in S, 0C where it is not in I.
 fn thread_asks(s: Sight, r: ThreadRequest) -> bool
     ensures { result ≡ thread_asks s r }
 {
-    let caller = s.caller;
-    let own = caller.labels;
+    let own = s.caller.labels;
     match r {
-        ThreadRequest::IntoSecrecy(_) => false,
         ThreadRequest::OutOfSecrecy(t) => own.secrecy.has(t),
         ThreadRequest::IntoIntegrity(t) => !own.integrity.has(t),
-        ThreadRequest::OutOfIntegrity(_) => false,
-        ThreadRequest::Fork(_) => false,
-        ThreadRequest::End => false,
-        ThreadRequest::Call(_) => false,
-        ThreadRequest::Return => false,
+        _ => false,
     }
 }
 
@@ -76,7 +56,6 @@ pub fn asks_authority(s: Sight, r: Request) -> bool
     match r {
         Request::OfAuthority(a) => authority_asks(a),
         Request::OfThread(a) => thread_asks(s, a),
-        Request::OfObject(_) => false,
-        Request::OfOutside(_) => false,
+        _ => false,
     }
 }

@@ -1,20 +1,14 @@
--- A list of which the first i places are cleared: what the loop of `clear` goes through, place by place. Assumes nothing.
-use mathlib.Core.Path.{◌≡◌, sym, ap, ◌∙◌}
-use mathlib.Core.List.{List, ◌++◌}
-use Prim.Native.Nat.{ℕ, suc, ◌+◌, ◌<◌}
-use native.Mathlib.Numerals.{add-one}
-use lib.ListN.{length, get_or, drop, set, replicate, length-replicate, replicate-append-replicate}
-use lib.Seq.{drop-cons, append_snoc, set_at}
+-- A list of which each place was written by a call that gives z. Assumes nothing.
+use mathlib.Core.Path.{◌≡◌, refl, ap, ap₂, ◌∙◌}
+use mathlib.Core.List.{List, [], ◌∷◌}
+use Prim.Native.Nat.{ℕ}
+use lib.ListN.{length, replicate}
+use Rattle.std.specs.List.{FoldsTo}
 
-module _ {A : Type 0} (z : A) (ys : List A) where
-  abbrev pub clearing : ℕ → List A
-  clearing i = replicate i z ++ drop i ys
+module _ {A F : Type 0} (R : F → A → F → Type 0) (z : A) (gives : (f : F) (x : A) (q : F) → R f x q → x ≡ z) where
+  all_written : (f q : F) (l : List A) → FoldsTo R f l q → l ≡ replicate (length l) z
+  all_written f q [] ran = refl
+  all_written f q (x ∷ l) ran = ap₂ (λ (y : A) (k : List A). y ∷ k) (gives f x ran.0 ran.1) (all_written ran.0 q l ran.2)
 
-  -- one more
-  pub clearing-next : (i : ℕ) → i < length ys → set (clearing i) i z ≡ clearing (i + 1)
-  clearing-next i h =
-      ap (λ (l : List A). set (replicate i z ++ l) i z) (drop-cons ys i z h)
-      ∙ set_at (replicate i z) (get_or ys i z) (drop (suc i) ys) z i (length-replicate i z)
-      ∙ sym (append_snoc (replicate i z) z (drop (suc i) ys))
-      ∙ ap (λ (l : List A). l ++ drop (suc i) ys) (replicate-append-replicate i 1 z)
-      ∙ ap (λ (j : ℕ). replicate (i + 1) z ++ drop j ys) (sym (add-one i))
+  pub filled : (f q : F) (l ys : List A) → FoldsTo R f l q → length l ≡ length ys → l ≡ replicate (length ys) z
+  filled f q l ys ran same = all_written f q l ran ∙ ap (λ (n : ℕ). replicate n z) same

@@ -2,12 +2,13 @@
 // acceptance". A record stands for the number that the core gives its link, and the core works on numbers: the
 // records are gathered as numbers, and what a request changes is put back into them.
 //
-// The two lists share the lemmas of the loops over them: proofs/FindLaws.antt (`find`), GatherLaws.antt (`gather`),
-// Closing.antt (`remove`) and ClearLaws.antt (`clear`).
+// There are two types of record, and one set of functions for a list of either.
 #![tactic(auto)]
 
+mod lists;
 pub mod principals;
 pub mod tags;
 
+pub use lists::{Link, append, clear, find, numbered, numbers_of, put_back, remove};
 pub use principals::PrincipalLink;
 pub use tags::TagLink;

@@ -16,10 +16,10 @@ use memory::Memory;
 use memory_rules::memory_holds;
 use numbers::LINKS;
 use object_rules::objects_hold;
-use store::{STORE, zero_numbers};
+use store::{STORE, zeros};
 use store_rules::store_holds;
 use tables::Tables;
-use tables::rows::{ObjectRow, TagRow, ThreadRow};
+use tables::rows::ObjectRow;
 use tag_rules::tags_hold;
 use thread_rules::threads_hold;
 
@@ -34,81 +34,43 @@ fn lists_hold<'a>(
 ) -> bool
     ensures { result ≡ lists_hold links.now n grants.now k tags principals }
 {
-    if !principal_links_hold(links, n, principals) {
-        return false;
-    }
-    if !tag_links_hold(grants, k, tags, principals) {
-        return false;
-    }
-    let a = zero_numbers(links, n, LINKS - n);
-    let b = zero_numbers(grants, k, LINKS - k);
-    (2 <= principals) & (a & b)
+    principal_links_hold(links, n, principals)
+        && tag_links_hold(grants, k, tags, principals)
+        && 2 <= principals
+        && zeros(links, n, LINKS - n)
+        && zeros(grants, k, LINKS - k)
 }
 
 // The rows of tags, threads and objects.
-fn rows_hold(
-    kinds: [TagRow; 64],
-    threads: [ThreadRow; 16],
-    objects: [ObjectRow; 64],
-    tags: u32,
-    principals: u32,
-) -> bool
-    ensures { result ≡ rows_hold kinds threads objects tags principals }
+fn rows_hold(t: &Tables) -> bool
+    ensures { result ≡ rows_hold t.now.kinds t.now.threads t.now.objects t.now.tags t.now.principals }
 {
-    let a = tags_hold(kinds, tags, principals);
-    let b = threads_hold(threads, principals, tags);
-    let c = objects_hold(objects, tags);
-    a & (b & c)
+    tags_hold(&t.kinds, t.tags, t.principals)
+        && threads_hold(&t.threads, t.principals, t.tags)
+        && objects_hold(&t.objects, t.tags)
 }
 
 // The store of messages, and its length.
-fn messages_hold(store: &[u8], objects: [ObjectRow; 64]) -> bool
-    requires { (o : ℕ) → o < 64 → places_used (what_of (object_at objects o)) ≤ 8 }
-    ensures { result ≡ messages_hold store.now objects }
+fn messages_hold(store: &[u8], objects: &[ObjectRow; 64]) -> bool
+    requires { (o : ℕ) → o < 64 → places_used (what_of (object_at objects.now o)) ≤ 8 }
+    ensures { result ≡ messages_hold store.now objects.now }
 {
-    if store.len() != STORE {
-        return false;
-    }
-    store_holds(store, objects)
+    store.len() == STORE && store_holds(store, objects)
 }
 
 // All tables, however they are: they break no rule but perhaps the truth of remembered pairs.
-pub fn hold_but_truth<'a>(
-    t: Tables,
-    m: Memory,
-    links: &'a [u32],
-    grants: &'a [u32],
-    store: &'a [u8],
-) -> bool
-    ensures { result ≡ hold_but_truth t m links.now grants.now store.now }
+pub fn hold_but_truth(t: &Tables, m: &Memory, links: &[u32], grants: &[u32], store: &[u8]) -> bool
+    ensures { result ≡ hold_but_truth t.now m.now links.now grants.now store.now }
 {
-    let tags = t.tags;
-    let principals = t.principals;
-    if !lists_hold(links, t.links, grants, t.grants, tags, principals) {
-        return false;
-    }
-    let kinds = t.kinds;
-    let threads = t.threads;
-    let objects = t.objects;
-    if !rows_hold(kinds, threads, objects, tags, principals) {
-        return false;
-    }
-    let messages = messages_hold(store, objects);
-    messages & memory_holds(m, tags, principals)
+    lists_hold(links, t.links, grants, t.grants, t.tags, t.principals)
+        && rows_hold(t)
+        && messages_hold(store, &t.objects)
+        && memory_holds(m, t.tags, t.principals)
 }
 
 // All tables, however they are: they break no rule.
-pub fn break_no_rule<'a>(
-    t: Tables,
-    m: Memory,
-    links: &'a [u32],
-    grants: &'a [u32],
-    store: &'a [u8],
-) -> bool
-    ensures { result ≡ break_no_rule t m links.now grants.now store.now }
+pub fn break_no_rule(t: &Tables, m: &Memory, links: &[u32], grants: &[u32], store: &[u8]) -> bool
+    ensures { result ≡ break_no_rule t.now m.now links.now grants.now store.now }
 {
-    if !hold_but_truth(t, m, links, grants, store) {
-        return false;
-    }
-    pairs_true(t, m, links, grants)
+    hold_but_truth(t, m, links, grants, store) && pairs_true(t, m, links, grants)
 }

@@ -12,14 +12,14 @@ use tables::rows::TagRow;
 
 // The pair's principal is authoritative for its tag.
 fn pair_true<'a>(
-    kinds: [TagRow; 64],
+    kinds: &[TagRow; 64],
     links: &'a [u32],
     n: usize,
     grants: &'a [u32],
     k: usize,
     x: u32,
 ) -> bool
-    ensures { result ≡ pair_true kinds links.now n grants.now k x }
+    ensures { result ≡ pair_true kinds.now links.now n grants.now k x }
 {
     let p = Principal((x / 256 % 256) as u8);
     let tag = lineage(kinds, Tag((x % 256) as u8));
@@ -27,20 +27,9 @@ fn pair_true<'a>(
 }
 
 // "A remembered pair .. untrue": none of those held is.
-pub fn pairs_true<'a>(t: Tables, m: Memory, links: &'a [u32], grants: &'a [u32]) -> bool
-    requires { Fits m }
-    ensures { result ≡ pairs_true t m links.now grants.now }
+pub fn pairs_true(t: &Tables, m: &Memory, links: &[u32], grants: &[u32]) -> bool
+    requires { Fits m.now }
+    ensures { result ≡ pairs_true t.now m.now links.now grants.now }
 {
-    let kinds = t.kinds;
-    let pairs = m.pairs;
-    let held = m.held;
-    let mut ok = true;
-    let mut i = 0;
-    while i < held {
-        let x = pairs[i];
-        let yes = pair_true(kinds, links, t.links, grants, t.grants, x);
-        ok = yes & ok;
-        i += 1;
-    }
-    ok
+    m.pairs[..m.held].iter().all(|x| pair_true(&t.kinds, links, t.links, grants, t.grants, *x))
 }

@@ -6,85 +6,82 @@ use mathlib.Core.List.{List, [], ◌++◌, append-nil}
 use Prim.Native.Nat.{ℕ, ◌+◌, ◌≤◌, ◌<◌}
 use native.Mathlib.Omega.{arith}
 use borrow.Author.Tests.{eqb-true, eq-eqb, ne_eqb}
+use Rattle.std.specs.Prelude.{Option, Some, None, is_some, unwrap_or}
 use lib.Dec.{eqb, leb}
 use lib.ListN.{length, take, length-append}
 use lib.Seq.{take-length}
 use Rattle.numbers.proofs.Bools.{and_left}
 use Rattle.numbers.proofs.Chain.{hit, and-stop, and-go}
-use Rattle.entry.specs.declared.Lists.{Lists}
-use Rattle.state.specs.declared.State.{State}
 use Rattle.state.specs.declared.Started.{Started}
 use Rattle.state.specs.Start.{started, zeroed}
-use Rattle.entry.specs.Entry.{no_links}
 use Rattle.store.specs.Store.{over}
 use Rattle.store.proofs.Over.{over-over}
 use Rattle.session.specs.declared.Fed.{Fed}
-use Rattle.session.specs.declared.Finished.{Finished}
+use Rattle.session.specs.declared.Session.{Session}
 use Rattle.session.specs.declared.Ran.{Ran}
-use Rattle.session.specs.Session.{Session, no_line, session_of, after, output, ending, ended}
+use Rattle.session.specs.Session.{Carried, session_of, opened, after, output, ending, ended}
 use Rattle.session.specs.Run.{ending_room, readable, fed, fed_session, fed_bytes, can_end, end_session, end_bytes, finished, begin, lines_of, complete, ran, ran_session, ran_bytes}
-use Rattle.session.proofs.SessionLaws.{readable-within, same-session}
+use Rattle.session.proofs.SessionLaws.{readable-within}
 use Rattle.session.proofs.Feeding.{over-fits}
 
--- what feeding the input from z into o leaves: f, the store b and the buffer p
-pub record Leaves (z : Session) (input o : List ℕ) (f : Fed) (b p : List ℕ) : Type 0 where
-  pub result : f ≡ fed z input o
-  pub store : b ≡ (fed_session z input o).store
+-- what feeding the input from z into o leaves: f, the session y and the buffer p
+pub record Leaves (z : Carried) (input o : List ℕ) (f : Fed) (y : Carried) (p : List ℕ) : Type 0 where
+  pub value : f ≡ fed z input o
+  pub session : y ≡ fed_session z input o
   pub bytes : p ≡ over o 0 (fed_bytes z input o)
   pub kept : length p ≡ length o
 
--- feeding from x, which is z
-pub fed-leaves :
-    {z x : Session} (input o : List ℕ) {f : Fed} {b p : List ℕ} → x ≡ z → f ≡ fed x input o → b ≡ (fed_session x input o).store
-    → p ≡ over o 0 (fed_bytes x input o) → length p ≡ length o → Leaves z input o f b p
-fed-leaves input o begun e q w k =
+-- feeding from the fresh state that `start` made, with no links: there the session is x, with the store d
+pub fed-fresh :
+    (size : ℕ) (b₀ input o : List ℕ) {a : Started} {x : Session} {d : List ℕ} {f : Fed} {y : Carried} {p : List ℕ} → a ≡ started size → x ≡ opened a.state
+    → d ≡ zeroed b₀ → f ≡ fed (session_of x d) input o → y ≡ fed_session (session_of x d) input o → p ≡ over o 0 (fed_bytes (session_of x d) input o)
+    → length p ≡ length o → Leaves (begin size b₀) input o f y p
+fed-fresh size b₀ input o {a} {x} {d} s n w e q b k =
+    let begun : session_of x d ≡ begin size b₀ =
+    ap₂ (λ (v : Session) (l : List ℕ). session_of v l) n w ∙ ap (λ (v : Started). session_of (opened v.state) (zeroed b₀)) s in
     record {
-      result = e ∙ ap (λ (v : Session). fed v input o) begun;
-      store = q ∙ ap (λ (v : Session). (fed_session v input o).store) begun;
-      bytes = w ∙ ap (λ (v : Session). over o 0 (fed_bytes v input o)) begun;
+      value = e ∙ ap (λ (v : Carried). fed v input o) begun;
+      session = q ∙ ap (λ (v : Carried). fed_session v input o) begun;
+      bytes = b ∙ ap (λ (v : Carried). over o 0 (fed_bytes v input o)) begun;
       kept = k;
     }
 
--- and from the fresh state that `start` made, with no links
-pub fed-fresh :
-    (size : ℕ) (b₀ input o : List ℕ) {a : Started} {x : Lists} {d : List ℕ} {f : Fed} {b p : List ℕ} → a ≡ started size → x ≡ no_links → d ≡ zeroed b₀
-    → f ≡ fed (session_of a.state x d no_line) input o → b ≡ (fed_session (session_of a.state x d no_line) input o).store
-    → p ≡ over o 0 (fed_bytes (session_of a.state x d no_line) input o) → length p ≡ length o → Leaves (begin size b₀) input o f b p
-fed-fresh size b₀ input o s n z = fed-leaves input o (same-session no_line (ap (λ (x : Started). x.state) s) n z)
-
 -- what a run says that began so
-abbrev said : Started → State → Lists → ℕ → ℕ → Bool → Ran
-said a s x i n k = record { status = a.status; state = s; lists = x; read = i; written = n; complete = k }
+abbrev pub said : Started → Carried → ℕ → ℕ → Bool → Ran
+said a v i n k = record { status = a.status; state = v.state; lists = v.lists; read = i; written = n; complete = k }
+
+-- whether there was room for the end, and how many bytes it has
+some-is : (k : Bool) (n : ℕ) → is_some (cond k (Some n) None) ≡ k
+some-is true n = refl
+some-is false n = refl
+
+count-is : (k : Bool) (bs : List ℕ) → unwrap_or (cond k (Some (length (cond k bs []))) None) 0 ≡ length (cond k bs [])
+count-is true bs = refl
+count-is false bs = refl
 
 module _ (size : ℕ) (b₀ input o : List ℕ) where
-  abbrev z : Session
+  abbrev z : Carried
   z = begin size b₀
 
-  abbrev y : Session
+  abbrev y : Carried
   y = fed_session z input o
 
   abbrev done : Bool
   done = complete size b₀ input o
 
-  -- a run leaves r, the store b and the buffer q
-  abbrev pub Runs : Ran → List ℕ → List ℕ → Type 0
-  Runs r b q = (r ≡ ran size b₀ input o) × ((b ≡ (ran_session size b₀ input o).store) × (q ≡ over o 0 (ran_bytes size b₀ input o)))
+  -- a run gives r, and leaves the session v and the buffer q
+  pub record Runs (r : Ran) (v : Carried) (q : List ℕ) : Type 0 where
+    pub value : r ≡ ran size b₀ input o
+    pub store : v.store ≡ (ran_session size b₀ input o).store
+    pub bytes : q ≡ over o 0 (ran_bytes size b₀ input o)
 
   -- from the start a and what feeding the input left
-  module _ {a : Started} {f : Fed} {b p : List ℕ} (begun : a ≡ started size) (h : Leaves z input o f b p) where
-    abbrev x : Session
-    x = session_of f.state f.lists b f.line
-
-    -- the session, the bytes read and the bytes written are what feeding leaves
-    same : x ≡ y
-    same =
-        ap₂ (λ (v : Fed) (u : List ℕ). session_of v.state v.lists u v.line) h.result h.store
-
+  module _ {a : Started} {f : Fed} {x : Carried} {p : List ℕ} (begun : a ≡ started size) (h : Leaves z input o f x p) where
     read : f.read ≡ readable z input (length o)
-    read = ap (λ (v : Fed). v.read) h.result
+    read = ap (λ (v : Fed). v.read) h.value
 
     wrote : f.written ≡ length (fed_bytes z input o)
-    wrote = ap (λ (v : Fed). v.written) h.result
+    wrote = ap (λ (v : Fed). v.written) h.value
 
     -- the block's bytes lie within the buffer
     within : 0 + length (fed_bytes z input o) ≤ length o
@@ -92,56 +89,58 @@ module _ (size : ℕ) (b₀ input o : List ℕ) where
 
     -- and so does what the end writes after them
     pub end-within :
-        {r : Finished} {q : List ℕ} → r ≡ finished x p f.written → q ≡ over p f.written (end_bytes x p f.written) → length q ≡ length p
-        → f.written + r.written ≤ length p
-    end-within e w k =
-        omega (
-          arith,
-          ap (λ (v : Finished). v.written) e,
-          over-fits p f.written (end_bytes x p f.written) (omega (arith, wrote, within, h.kept)) (sym (ap length w) ∙ k),
-        )
+        {e : Option ℕ} {q : List ℕ} → e ≡ finished x p f.written → q ≡ over p f.written (end_bytes x p f.written) → length q ≡ length p
+        → f.written + unwrap_or e 0 ≤ length p
+    end-within {e} e-is w k =
+        let n : unwrap_or e 0 ≡ length (end_bytes x p f.written) = ap (λ (v : Option ℕ). unwrap_or v 0) e-is ∙ count-is (can_end x p f.written) (ending x) in
+        omega (arith, n, over-fits p f.written (end_bytes x p f.written) (omega (arith, wrote, within, h.kept)) (sym (ap length w) ∙ k))
 
     -- all of it, from what is written after the bytes of the block
     runs :
-        {v : Session} {q bs : List ℕ} {n : ℕ} {k : Bool} → k ≡ done → v ≡ cond k (ended y) y → bs ≡ cond k (ending y) [] → n ≡ length (fed_bytes z input o ++ bs)
-        → q ≡ over o 0 (fed_bytes z input o ++ bs) → Runs (said a v.state v.lists f.read n k) v.store q
+        {v : Carried} {q bs : List ℕ} {n : ℕ} {k : Bool} → k ≡ done → v ≡ cond k (ended y) y → bs ≡ cond k (ending y) [] → n ≡ length (fed_bytes z input o ++ bs)
+        → q ≡ over o 0 (fed_bytes z input o ++ bs) → Runs (said a v f.read n k) v q
     runs {v} {q} {bs} {n} {k} c e s m w =
         let session : v ≡ ran_session size b₀ input o = e ∙ ap (λ (j : Bool). cond j (ended y) y) c in
         let bytes : fed_bytes z input o ++ bs ≡ ran_bytes size b₀ input o =
         ap (λ (u : List ℕ). fed_bytes z input o ++ u) (s ∙ ap (λ (j : Bool). cond j (ending y) []) c) in
-        let result =
-        ap₂ (λ (u : Session) (j : ℕ). said a u.state u.lists f.read j k) session (m ∙ ap length bytes)
-        ∙ ap₂ (λ (i : ℕ) (j : Bool). said a (ran_session size b₀ input o).state (ran_session size b₀ input o).lists i (length (ran_bytes size b₀ input o)) j) read c
-        ∙ ap (λ (u : Started). said u (ran_session size b₀ input o).state (ran_session size b₀ input o).lists (readable z input (length o)) (length (ran_bytes size b₀ input o)) done) begun in (
-          result,
-          (ap (λ (u : Session). u.store) session, w ∙ ap (over o 0) bytes),
-        )
+        record {
+          value =
+              ap₂ (λ (u : Carried) (j : ℕ). said a u f.read j k) session (m ∙ ap length bytes)
+              ∙ ap₂ (λ (i : ℕ) (j : Bool). said a (ran_session size b₀ input o) i (length (ran_bytes size b₀ input o)) j) read c
+              ∙ ap (λ (u : Started). said u (ran_session size b₀ input o) (readable z input (length o)) (length (ran_bytes size b₀ input o)) done) begun;
+          store = ap (λ (u : Carried). u.store) session;
+          bytes = w ∙ ap (over o 0) bytes;
+        }
 
     -- not all was read
-    pub part-read : f.read < length input → Runs (said a f.state f.lists f.read f.written false) b p
-    part-read i =
+    pub part-read :
+        {e : Option ℕ} {v : Carried} {q : List ℕ} {n : ℕ} {k : Bool} → f.read < length input → e ≡ None → v ≡ x → q ≡ p → n ≡ unwrap_or e 0 → k ≡ is_some e
+        → Runs (said a v f.read (f.written + n) k) v q
+    part-read {e} {v} {q} {n} {k} i e-is s w n-is k-is =
         let end = append-nil (fed_bytes z input o) in
-        let c : false ≡ done = and-stop (can_end y o (length (fed_bytes z input o))) (ne_eqb (readable z input (length o)) (length input) (λ q. omega (arith, q, read))) refl in
-        runs {bs = []} c same refl (wrote ∙ sym (ap length end)) (h.bytes ∙ ap (over o 0) (sym end))
+        let none : n ≡ 0 = n-is ∙ ap (λ (u : Option ℕ). unwrap_or u 0) e-is in
+        let no : false ≡ done = and-stop (can_end y o (length (fed_bytes z input o))) (ne_eqb (readable z input (length o)) (length input) (λ q. omega (arith, q, read))) refl in
+        let stop : k ≡ false = k-is ∙ ap (λ (u : Option ℕ). is_some u) e-is in
+        runs {bs = []} (stop ∙ no) (s ∙ h.session ∙ ap (λ (j : Bool). cond j (ended y) y) (sym stop)) (ap (λ (j : Bool). cond j (ending y) []) (sym stop)) (omega (arith, none, wrote, ap length end)) (w ∙ h.bytes ∙ ap (over o 0) (sym end))
 
-    -- all was read, and r is what the end leaves
+    -- all was read, and e is what the end gives
     pub all_read :
-        {r : Finished} {d q : List ℕ} → length input ≤ f.read → r ≡ finished x p f.written → d ≡ (end_session x p f.written).store
-        → q ≡ over p f.written (end_bytes x p f.written) → Runs (said a r.state r.lists f.read (f.written + r.written) r.complete) d q
-    all_read i e ed w =
+        {e : Option ℕ} {v : Carried} {q : List ℕ} {n : ℕ} {k : Bool} → length input ≤ f.read → e ≡ finished x p f.written → v ≡ end_session x p f.written
+        → q ≡ over p f.written (end_bytes x p f.written) → n ≡ unwrap_or e 0 → k ≡ is_some e → Runs (said a v f.read (f.written + n) k) v q
+    all_read {e} {v} {q} {n} {k} i e-is s w n-is k-is =
         let bs = fed_bytes z input o in
         let cs = end_bytes x p f.written in
-        let k = can_end x p f.written in
-        let c : k ≡ done =
+        let room = can_end x p f.written in
+        let c : room ≡ done =
         and-go (eq-eqb (readable z input (length o)) (length input) (omega (arith, read, readable-within z input (length o))))
-        (ap₂ (λ (j n : ℕ). leb (j + ending_room) n) wrote h.kept) in
+        (ap₂ (λ (j r : ℕ). leb (j + ending_room) r) wrote h.kept) in
         let from : f.written ≡ 0 + length bs = omega (arith, wrote) in
         let put = w ∙ ap₂ (λ (u : List ℕ) (j : ℕ). over u j cs) h.bytes from ∙ over-over o 0 bs cs within in
-        let n : f.written + length cs ≡ length (bs ++ cs) = omega (arith, wrote, length-append bs cs) in
-        let all = runs c (ap (λ (v : Session). cond k (ended v) v) same) (ap (λ (v : Session). cond k (ending v) []) same) n put in (
-          ap (λ (u : Finished). said a u.state u.lists f.read (f.written + u.written) u.complete) e ∙ all.0,
-          (ed ∙ all.1.0, all.1.1),
-        )
+        let some : k ≡ room = k-is ∙ ap (λ (u : Option ℕ). is_some u) e-is ∙ some-is room (length cs) in
+        let count : n ≡ length cs = n-is ∙ ap (λ (u : Option ℕ). unwrap_or u 0) e-is ∙ count-is room (ending x) in
+        let m : f.written + n ≡ length (bs ++ cs) = omega (arith, count, wrote, length-append bs cs) in
+        let here = s ∙ ap₂ (λ (j : Bool) (u : Carried). cond j (ended u) u) (sym some) h.session in
+        runs (some ∙ c) here (ap₂ (λ (j : Bool) (u : Carried). cond j (ending u) []) (sym some) h.session) m put
 
 -- a run that is complete has written what the list has
 pub complete-run :

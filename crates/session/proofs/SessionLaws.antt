@@ -1,5 +1,5 @@
 -- Feeding a list in pieces is feeding it whole, and one byte more of a list. Assumes nothing.
-use mathlib.Core.Path.{◌≡◌, refl, sym, ap, ap₂, ◌∙◌}
+use mathlib.Core.Path.{◌≡◌, refl, sym, ap, ◌∙◌}
 use mathlib.Core.List.{List, [], ◌∷◌, ◌++◌, append_assoc, append-nil}
 use mathlib.Core.Logic.{◌⊎◌, inl, inr}
 use Prim.Native.Nat.{ℕ, suc, ◌+◌, ◌-◌, ◌≤◌, ◌<◌}
@@ -11,26 +11,18 @@ use lib.ListN.{length, take, drop, get_or, drop_of_length-le}
 use lib.Seq.{take-suc, drop-cons}
 use Rattle.numbers.proofs.Bools.{by-test}
 use Rattle.numbers.proofs.Chain.{skip, hit}
-use Rattle.entry.specs.declared.Lists.{Lists}
-use Rattle.state.specs.declared.State.{State}
-use Rattle.session.specs.declared.Line.{Line}
-use Rattle.session.specs.Session.{Session, session_of, takes, says, after, output}
+use Rattle.session.specs.Session.{Carried, takes, says, after, output}
 use Rattle.session.specs.Run.{answer_room, readable}
-
--- equal parts are an equal session
-pub same-session :
-    {s t : State} {x y : Lists} {b d : List ℕ} (z : Line) → s ≡ t → x ≡ y → b ≡ d → session_of s x b z ≡ session_of t y d z
-same-session {s} {t} {x} {y} {b} {d} z e f q = ap₂ (λ (u : State) (v : Lists). session_of u v b z) e f ∙ ap (λ (v : List ℕ). session_of t y v z) q
 
 -- ---- the promise that a list may be fed in pieces: what two pieces leave, one after the other, the whole leaves ..
 
-pub after-append : (z : Session) (x y : List ℕ) → after z (x ++ y) ≡ after (after z x) y
+pub after-append : (z : Carried) (x y : List ℕ) → after z (x ++ y) ≡ after (after z x) y
 unfolding after
 after-append z [] y = refl
 after-append z (b ∷ x) y = after-append (takes z b) x y
 
 -- .. and what is printed for the two is printed for the whole
-pub output-append : (z : Session) (x y : List ℕ) → output z (x ++ y) ≡ output z x ++ output (after z x) y
+pub output-append : (z : Carried) (x y : List ℕ) → output z (x ++ y) ≡ output z x ++ output (after z x) y
 unfolding after output
 output-append z [] y = refl
 output-append z (b ∷ x) y =
@@ -39,11 +31,11 @@ output-append z (b ∷ x) y =
 -- ---- one byte
 
 -- what it leaves, and what is printed for it
-after_one : (z : Session) (b : ℕ) → after z (b ∷ []) ≡ takes z b
+after_one : (z : Carried) (b : ℕ) → after z (b ∷ []) ≡ takes z b
 unfolding after
 after_one z b = refl
 
-output-one : (z : Session) (b : ℕ) → output z (b ∷ []) ≡ says z b
+output-one : (z : Carried) (b : ℕ) → output z (b ∷ []) ≡ says z b
 unfolding output
 output-one z b = append-nil (says z b)
 
@@ -52,12 +44,12 @@ next : (l : List ℕ) (i : ℕ) → i < length l → take (i + 1) l ≡ take i l
 next l i h = ap (λ (k : ℕ). take k l) (add-one i) ∙ take-suc l i 0 h
 
 -- what one byte more of a list leaves
-pub after_next : (z : Session) (l : List ℕ) (i : ℕ) → i < length l → after z (take (i + 1) l) ≡ takes (after z (take i l)) (get_or l i 0)
+pub after_next : (z : Carried) (l : List ℕ) (i : ℕ) → i < length l → after z (take (i + 1) l) ≡ takes (after z (take i l)) (get_or l i 0)
 after_next z l i h = ap (after z) (next l i h) ∙ after-append z (take i l) (get_or l i 0 ∷ []) ∙ after_one (after z (take i l)) (get_or l i 0)
 
 -- and what is printed for it
 pub output-next :
-    (z : Session) (l : List ℕ) (i : ℕ) → i < length l → output z (take (i + 1) l) ≡ output z (take i l) ++ says (after z (take i l)) (get_or l i 0)
+    (z : Carried) (l : List ℕ) (i : ℕ) → i < length l → output z (take (i + 1) l) ≡ output z (take i l) ++ says (after z (take i l)) (get_or l i 0)
 output-next z l i h =
     ap (output z) (next l i h) ∙ output-append z (take i l) (get_or l i 0 ∷ [])
     ∙ ap (λ (x : List ℕ). output z (take i l) ++ x) (output-one (after z (take i l)) (get_or l i 0))
@@ -65,30 +57,30 @@ output-next z l i h =
 -- ---- how many bytes are taken
 
 -- none of no bytes
-readable-none : (z : Session) (room : ℕ) → readable z [] room ≡ 0
+readable-none : (z : Carried) (room : ℕ) → readable z [] room ≡ 0
 unfolding readable
 readable-none z room = refl
 
 -- one, where there is room, and those after it
 readable-first :
-    (z : Session) (b : ℕ) (bs : List ℕ) (room : ℕ) → answer_room ≤ room
+    (z : Carried) (b : ℕ) (bs : List ℕ) (room : ℕ) → answer_room ≤ room
     → readable z (b ∷ bs) room ≡ suc (readable (takes z b) bs (room - length (says z b)))
 unfolding readable
 readable-first z b bs room h = sym (skip 0 (le-ltb room answer_room h) refl)
 
 -- none where there is no room
-pub readable-full : (z : Session) (l : List ℕ) (room : ℕ) → room < answer_room → readable z l room ≡ 0
+pub readable-full : (z : Carried) (l : List ℕ) (room : ℕ) → room < answer_room → readable z l room ≡ 0
 unfolding readable
 readable-full z [] room h = refl
 readable-full z (b ∷ bs) room h = sym (hit _ (lt-ltb room answer_room h) refl)
 
 -- none where the list has ended
-pub readable-end : (z : Session) (l : List ℕ) (i room : ℕ) → length l ≤ i → readable z (drop i l) room ≡ 0
+pub readable-end : (z : Carried) (l : List ℕ) (i room : ℕ) → length l ≤ i → readable z (drop i l) room ≡ 0
 readable-end z l i room h = ap (λ (x : List ℕ). readable z x room) (drop_of_length-le l h) ∙ readable-none z room
 
 -- the byte at i, and those after it
 pub readable-next :
-    (z : Session) (l : List ℕ) (i room : ℕ) → i < length l → answer_room ≤ room
+    (z : Carried) (l : List ℕ) (i room : ℕ) → i < length l → answer_room ≤ room
     → readable z (drop i l) room ≡ suc (readable (takes z (get_or l i 0)) (drop (i + 1) l) (room - length (says z (get_or l i 0))))
 readable-next z l i room h k =
     let b = get_or l i 0 in
@@ -96,7 +88,7 @@ readable-next z l i room h k =
     ∙ ap (λ (n : ℕ). suc (readable (takes z b) (drop n l) (room - length (says z b)))) (sym (add-one i))
 
 -- no more than there are
-pub readable-within : (z : Session) (l : List ℕ) (room : ℕ) → readable z l room ≤ length l
+pub readable-within : (z : Carried) (l : List ℕ) (room : ℕ) → readable z l room ≤ length l
 unfolding readable
 readable-within z [] room = omega arith
 readable-within z (b ∷ bs) room =
@@ -104,6 +96,6 @@ readable-within z (b ∷ bs) room =
     (λ e. omega (arith, readable-within (takes z b) bs (room - length (says z b))))
 
 -- and something, where there is room for an answer
-pub readable-some : (z : Session) (l : List ℕ) (room : ℕ) → answer_room ≤ room → (length l ≡ 0) ⊎ (0 < readable z l room)
+pub readable-some : (z : Carried) (l : List ℕ) (room : ℕ) → answer_room ≤ room → (length l ≡ 0) ⊎ (0 < readable z l room)
 readable-some z [] room h = inl refl
 readable-some z (b ∷ bs) room h = inr (omega (arith, readable-first z b bs room h))

@@ -1,15 +1,16 @@
-// A list of lines fed byte by byte: the state, the lists of links and the line in the making go from one block of
-// input to the next. The lists are held as records, by value, and lent for each request. A block is read while the output buffer has room for an answer, so that no half of one is ever
-// written.
+// A list of lines fed byte by byte: a session has the state, the lists of links and the line in the making, and goes
+// from one block of input to the next. Its lists are records, and lent for each request. A block is read while the
+// output buffer has room for an answer, so that no half of one is ever written.
 #![tactic(auto)]
 
 ghost use Rattle.std.specs.Prelude.{◌≡◌, ◌+◌, ◌≤◌, leb, length};
 ghost use Rattle.store.specs.Store.{over};
 ghost use Rattle.monitor.specs.Monitor.{shortest_buffer};
-ghost use Rattle.session.specs.Session.{replied_in, line_answered, answered_lists, session_of, turned, printed, end_of, last_line};
+ghost use Rattle.entry.specs.Entry.{reply_in};
+ghost use Rattle.session.specs.Session.{line_bytes, pushed, no_line, session_of, opened, answer_of, answered, turned, printed, last_line};
 ghost use Rattle.session.specs.Run.{answer_room, ending_room, fed, fed_session, fed_bytes, end_session, end_bytes, finished, ran, ran_session, ran_bytes};
 
-use entry::{Answered, Lists, Reply, no_links, request_with};
+use entry::{Lists, Reply, no_links, request};
 use lines::{LINE_FEED, frame_of, put_line};
 use memory::Memory;
 use state::{State, start};
@@ -33,23 +34,48 @@ pub struct Line {
     pub bytes: [u8; KEPT],
 }
 
-// What a block of input leaves: how much of it was read, and how much was written.
-#[derive(Clone, Copy)]
-pub struct Fed {
+impl Line {
+    // No byte yet.
+    fn new() -> Line
+        ensures { result ≡ no_line }
+    {
+        Line {
+            held: 0,
+            bytes: [0; KEPT],
+        }
+    }
+
+    // Its bytes.
+    fn held_bytes(&self) -> &[u8]
+        ensures { result.now ≡ line_bytes self.now }
+    {
+        &self.bytes[..self.held.min(KEPT)]
+    }
+
+    // One byte more, where there is a place for it.
+    fn push(&mut self, byte: u8)
+        ensures { self.new ≡ pushed self.old byte }
+    {
+        if self.held < KEPT {
+            self.bytes[self.held] = byte;
+            self.held += 1;
+        }
+    }
+}
+
+// What is carried from byte to byte, beside the store.
+#[derive(Drop)]
+pub struct Session {
     pub state: State,
     pub lists: Lists,
     pub line: Line,
-    pub read: usize,
-    pub written: usize,
 }
 
-// What the end of the input leaves: how much was written, and whether there was room for it.
+// What a block of input leaves beside the session: how much of it was read, and how much was written.
 #[derive(Clone, Copy)]
-pub struct Finished {
-    pub state: State,
-    pub lists: Lists,
+pub struct Fed {
+    pub read: usize,
     pub written: usize,
-    pub complete: bool,
 }
 
 // What a whole list leaves. The status is 0, or 11 at a start that was refused.
@@ -63,101 +89,101 @@ pub struct Ran {
     pub complete: bool,
 }
 
-// What a line's end leaves: the state, the lists, and how many bytes were written.
-#[derive(Clone, Copy)]
-struct Turned {
-    pub state: State,
-    pub lists: Lists,
-    pub written: usize,
-}
-
-// A whole line: its frame is a request; or "refused 1: 01 is printed for it and nothing changes".
-fn answer_line(s: State, lists: Lists, store: &mut [u8], line: &[u8], answer: &mut [u8]) -> Answered
-    requires { shortest_buffer ≤ length answer.old }
-    ensures result_value { replied_in result ≡ (line_answered s lists store.old line.now answer.old).replied }
-    ensures lists_value { result.lists ≡ answered_lists s lists store.old line.now answer.old }
-    ensures store_after { store.new ≡ (line_answered s lists store.old line.now answer.old).store }
-    ensures answer_after { answer.new ≡ (line_answered s lists store.old line.now answer.old).answer }
-{
-    let mut frame = [0u8; 36];
-    if !frame_of(line, &mut frame) {
-        answer[0] = 1;
-        let reply = Reply {
-            status: 1,
-            written: 1,
-        };
-        return Answered {
-            reply,
-            state: s,
-            lists,
-        };
-    }
-    let n = line.len() / 2;
-    request_with(s, lists, store, &frame[..n], answer)
-}
-
-// The end of a line: "prints one answer a line".
-fn end_line(s: State, l: Lists, store: &mut [u8], line: Line, out: &mut [u8], at: usize) -> Turned
-    requires { at + answer_room ≤ length out.old }
-    ensures value { result ≡ end_of (session_of s l store.old line) }
-    ensures store_after { store.new ≡ (turned (session_of s l store.old line)).store }
-    ensures out_after { out.new ≡ over out.old at (printed (session_of s l store.old line)) }
-    ensures written_le_answer_room { result.written ≤ answer_room }
-{
-    let held = line.held;
-    let bytes = line.bytes;
-    let n = if held < KEPT { held } else { KEPT };
-    let mut answer = [0u8; 34];
-    let r = answer_line(s, l, store, &bytes[..n], &mut answer);
-    let reply = r.reply;
-    let k = reply.written;
-    put_line(&answer[..k], out, at);
-    let state = r.state;
-    let lists = r.lists;
-    Turned {
-        state,
-        lists,
-        written: k + k + 1,
-    }
-}
-
-// A block of input, while there is room for an answer.
-pub fn feed(s: State, l: Lists, store: &mut [u8], line: Line, input: &[u8], out: &mut [u8]) -> Fed
-    ensures value { result ≡ fed (session_of s l store.old line) input.now out.old }
-    ensures store_after { store.new ≡ (fed_session (session_of s l store.old line) input.now out.old).store }
-    ensures out_after { out.new ≡ over out.old 0 (fed_bytes (session_of s l store.old line) input.now out.old) }
-{
-    let mut state = s;
-    let mut lists = l;
-    let mut held = line.held;
-    let mut bytes = line.bytes;
-    let mut i = 0;
-    let mut at = 0;
-    while i < input.len() {
-        if out.len() - at < ANSWER_ROOM {
-            break;
-        }
-        let b = input[i];
-        i += 1;
-        if b == LINE_FEED {
-            let whole = Line { held, bytes };
-            let t = end_line(state, lists, store, whole, out, at);
-            state = t.state;
-            lists = t.lists;
-            at += t.written;
-            held = 0;
-        } else if held < KEPT {
-            bytes[held] = b;
-            held += 1;
+impl Session {
+    // Before the first byte, from this state, with no links.
+    pub fn new(state: State) -> Session
+        ensures { result ≡ opened state }
+    {
+        Session {
+            state,
+            lists: no_links(),
+            line: Line::new(),
         }
     }
-    let line = Line { held, bytes };
-    Fed {
-        state,
-        lists,
-        line,
-        read: i,
-        written: at,
+
+    // The line as it stands, taken as a whole one: its frame is a request; or "refused 1: 01 is printed for it and
+    // nothing changes".
+    fn answer_line(&mut self, store: &mut [u8], answer: &mut [u8]) -> Reply
+        requires { shortest_buffer ≤ length answer.old }
+        ensures value { result ≡ reply_in (answer_of (session_of self.old store.old) answer.old).replied }
+        ensures session_after { session_of self.new store.new ≡ answered (session_of self.old store.old) answer.old }
+        ensures answer_after { answer.new ≡ (answer_of (session_of self.old store.old) answer.old).answer }
+    {
+        let line = self.line.held_bytes();
+        let mut frame = [0; 36];
+        if !frame_of(line, &mut frame) {
+            answer[0] = 1;
+            return Reply {
+                status: 1,
+                written: 1,
+            };
+        }
+        let n = line.len() / 2;
+        request(
+            &mut self.state,
+            &mut self.lists.links,
+            &mut self.lists.grants,
+            store,
+            &frame[..n],
+            answer,
+        )
+    }
+
+    // The end of a line: "prints one answer a line". How many bytes that is.
+    fn end_line(&mut self, store: &mut [u8], out: &mut [u8], at: usize) -> usize
+        requires { at + answer_room ≤ length out.old }
+        ensures value { result ≡ length (printed (session_of self.old store.old)) }
+        ensures session_after { session_of self.new store.new ≡ turned (session_of self.old store.old) }
+        ensures out_after { out.new ≡ over out.old at (printed (session_of self.old store.old)) }
+        ensures written_le_answer_room { result ≤ answer_room }
+    {
+        let mut answer = [0; 34];
+        let n = self.answer_line(store, &mut answer).written;
+        put_line(&answer[..n], out, at);
+        self.line.held = 0;
+        n + n + 1
+    }
+
+    // A block of input, while there is room for an answer.
+    pub fn feed(&mut self, store: &mut [u8], input: &[u8], out: &mut [u8]) -> Fed
+        ensures value { result ≡ fed (session_of self.old store.old) input.now out.old }
+        ensures session_after { session_of self.new store.new ≡ fed_session (session_of self.old store.old) input.now out.old }
+        ensures out_after { out.new ≡ over out.old 0 (fed_bytes (session_of self.old store.old) input.now out.old) }
+    {
+        let mut written = 0;
+        for (read, byte) in input.iter().enumerate() {
+            if out.len() - written < ANSWER_ROOM {
+                return Fed { read, written };
+            }
+            if *byte == LINE_FEED {
+                written += self.end_line(store, out, written);
+            } else {
+                self.line.push(*byte);
+            }
+        }
+        Fed {
+            read: input.len(),
+            written,
+        }
+    }
+
+    // The end of the input: "A last line without LF counts if it has a byte", and the last line. All of it is
+    // written at `at`, and how many bytes that is; or nothing where there is no room.
+    pub fn finish(&mut self, store: &mut [u8], out: &mut [u8], at: usize) -> Option<usize>
+        ensures value { result ≡ finished (session_of self.old store.old) out.old at }
+        ensures session_after { session_of self.new store.new ≡ end_session (session_of self.old store.old) out.old at }
+        ensures out_after { out.new ≡ over out.old at (end_bytes (session_of self.old store.old) out.old at) }
+    {
+        if !can_end(out.len(), at) {
+            return None;
+        }
+        let n = if self.line.held == 0 {
+            0
+        } else {
+            self.end_line(store, out, at)
+        };
+        put_last(self.state.memory, out, at + n);
+        Some(n + LAST_LINE)
     }
 }
 
@@ -166,76 +192,17 @@ fn put_last(m: Memory, out: &mut [u8], at: usize)
     requires { at + 19 ≤ length out.old }
     ensures { out.new ≡ over out.old at (last_line m) }
 {
-    let questions = m.questions;
-    let hits = m.hits;
-    let bytes = [
-        0xFF,
-        (questions / 16777216) as u8,
-        (questions / 65536 % 256) as u8,
-        (questions / 256 % 256) as u8,
-        (questions % 256) as u8,
-        (hits / 16777216) as u8,
-        (hits / 65536 % 256) as u8,
-        (hits / 256 % 256) as u8,
-        (hits % 256) as u8,
-    ];
+    let mut bytes = [0xFF; 9];
+    bytes[1..5].copy_from_slice(&m.questions.to_be_bytes());
+    bytes[5..].copy_from_slice(&m.hits.to_be_bytes());
     put_line(&bytes, out, at);
 }
 
-// There is room for the longest ending at `at`; written out since at + 88 could wrap.
+// There is room for the longest ending at `at`.
 fn can_end(length: usize, at: usize) -> bool
     ensures { result ≡ leb (at + ending_room) length }
 {
-    if length < ENDING_ROOM {
-        return false;
-    }
-    at <= length - ENDING_ROOM
-}
-
-// The end of the input: "A last line without LF counts if it has a byte", and the last line. All of it is
-// written at `at`, or nothing where there is no room.
-pub fn finish(
-    s: State,
-    l: Lists,
-    store: &mut [u8],
-    line: Line,
-    out: &mut [u8],
-    at: usize,
-) -> Finished
-    ensures value { result ≡ finished (session_of s l store.old line) out.old at }
-    ensures store_after { store.new ≡ (end_session (session_of s l store.old line) out.old at).store }
-    ensures out_after { out.new ≡ over out.old at (end_bytes (session_of s l store.old line) out.old at) }
-{
-    if !can_end(out.len(), at) {
-        return Finished {
-            state: s,
-            lists: l,
-            written: 0,
-            complete: false,
-        };
-    }
-    if line.held < 1 {
-        let m = s.memory;
-        put_last(m, out, at);
-        return Finished {
-            state: s,
-            lists: l,
-            written: LAST_LINE,
-            complete: true,
-        };
-    }
-    let t = end_line(s, l, store, line, out, at);
-    let state = t.state;
-    let lists = t.lists;
-    let m = state.memory;
-    let n = t.written;
-    put_last(m, out, at + n);
-    Finished {
-        state,
-        lists,
-        written: n + LAST_LINE,
-        complete: true,
-    }
+    at.checked_add(ENDING_ROOM).is_some_and(|end| end <= length)
 }
 
 // A whole list from the fresh state with this memory size. Where the output buffer has no room for all of it,
@@ -246,37 +213,19 @@ pub fn run(size: usize, store: &mut [u8], input: &[u8], out: &mut [u8]) -> Ran
     ensures out_after { out.new ≡ over out.old 0 (ran_bytes size store.old input.now out.old) }
 {
     let first = start(size, store);
-    let status = first.status;
-    let fresh = first.state;
-    let none = Line {
-        held: 0,
-        bytes: [0; KEPT],
+    let mut session = Session::new(first.state);
+    let fed = session.feed(store, input, out);
+    let last = if fed.read < input.len() {
+        None
+    } else {
+        session.finish(store, out, fed.written)
     };
-    let f = feed(fresh, no_links(), store, none, input, out);
-    let state = f.state;
-    let lists = f.lists;
-    let read = f.read;
-    let at = f.written;
-    if read < input.len() {
-        return Ran {
-            status,
-            state,
-            lists,
-            read,
-            written: at,
-            complete: false,
-        };
-    }
-    let line = f.line;
-    let e = finish(state, lists, store, line, out, at);
-    let last = e.state;
-    let last_lists = e.lists;
     Ran {
-        status,
-        state: last,
-        lists: last_lists,
-        read,
-        written: at + e.written,
-        complete: e.complete,
+        status: first.status,
+        state: session.state,
+        lists: session.lists,
+        read: fed.read,
+        written: fed.written + last.unwrap_or(0),
+        complete: last.is_some(),
     }
 }

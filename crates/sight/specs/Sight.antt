@@ -1,6 +1,6 @@
 -- What a request sees of the tables before the links are asked: who asks, with which labels, how much room there is, and the tag and
 -- the object that it names (01, "Requests"). Assumes nothing.
-use Rattle.std.specs.Prelude.{Bool, true, false, cond, List, ℕ}
+use Rattle.std.specs.Prelude.{Bool, true, false, cond, List, ℕ, Option, None}
 use Rattle.numbers.specs.declared.Tag.{Tag}
 use Rattle.numbers.specs.declared.Object.{Object}
 use Rattle.numbers.specs.declared.Thread.{Thread}
@@ -74,7 +74,7 @@ object_named (OfThread r) = record { 0 = no_number }
 object_named (OfObject r) = object_of r
 object_named (OfOutside r) = record { 0 = no_number }
 
--- ---- the number that a new thread or object would take: "the lowest free number, freed ones included"
+-- ---- the number that a new thread or object would take: "the lowest free number, freed ones included"; none where each is taken
 
 abbrev pub is_fork : ThreadRequest → Bool
 is_fork (IntoSecrecy t) = false
@@ -108,8 +108,8 @@ makes_object (OfThread r) = false
 makes_object (OfObject r) = is_new r
 makes_object (OfOutside r) = false
 
-abbrev pub free_for : Tables → Request → ℕ
-free_for t r = cond (forks r) (free_thread t.threads) (cond (makes_object r) (free_object t.objects) 0)
+abbrev pub free_for : Tables → Request → Option ℕ
+free_for t r = cond (forks r) (free_thread t.threads) (cond (makes_object r) (free_object t.objects) None)
 
 -- ---- who asks
 
@@ -136,7 +136,7 @@ sight_of t n r =
 
 -- ---- the same from what was read of the tables: the rows of its thread, its tag, that tag's supertag and its object, and the counts
 
-abbrev pub seen_in : Request → ThreadRow → TagRow → TagRow → ObjectRow → Counts → ℕ → Sight
+abbrev pub seen_in : Request → ThreadRow → TagRow → TagRow → ObjectRow → Counts → Option ℕ → Sight
 seen_in r row tag above object counts free =
     record {
       caller = caller_in row;

@@ -11,7 +11,7 @@ ghost use Rattle.sight.specs.Sight.{tag_named, object_named, caller_in, forks, m
 
 use crate::names::{forks, makes_object, object_number, tag_number, thread_number};
 use frames::requests::Request;
-use lent::{Counts, counts_of, object_at, objects, tag_at, thread_at, threads};
+use lent::{Counts, counts_of, object_at, sized, tag_at, thread_at};
 use links::Lineage;
 pub use names::tag_named;
 use numbers::{LabelPair, Principal, Thread};
@@ -39,33 +39,34 @@ pub struct Sight {
     pub grants: usize,
     pub lineage: Lineage,
     pub object: ObjectRow,
-    pub free: usize,
+    pub free: Option<u8>,
 }
 
 fn caller_in(row: ThreadRow) -> Caller
     ensures { result ≡ caller_in row }
 {
-    let principal = row.principal;
-    let labels = row.labels;
     Caller {
         live: is_live(row.live),
-        principal,
-        labels,
+        principal: row.principal,
+        labels: row.labels,
         calls: row.calls,
     }
 }
 
-// The number that a new thread or object would take. Only for these is a whole table looked through.
-fn free_for(s: &State, r: Request) -> usize
+// The number that a new thread or object would take, if one is free. Only for these is a whole table looked through.
+fn free_for(s: &State, r: Request) -> Option<u8>
     ensures { result ≡ free_for s.now.tables r }
 {
+    sized(s);
     if forks(r) {
-        return free_thread(threads(s));
+        let n = free_thread(&s.tables.threads)?;
+        return Some(n as u8);
     }
     if makes_object(r) {
-        return free_object(objects(s));
+        let n = free_object(&s.tables.objects)?;
+        return Some(n as u8);
     }
-    0
+    None
 }
 
 // What a request sees where these rows were read for it: its thread's, its tag's, the one of that tag's supertag,
@@ -77,19 +78,17 @@ fn seen(
     above: TagRow,
     object: ObjectRow,
     counts: Counts,
-    free: usize,
+    free: Option<u8>,
 ) -> Sight
     ensures { result ≡ seen_in r row tag above object counts free }
 {
-    let caller = caller_in(row);
-    let lineage = lineage_in(tag_named(r), tag, above);
     Sight {
-        caller,
+        caller: caller_in(row),
         principals: counts.principals,
         tags: counts.tags,
         links: counts.links,
         grants: counts.grants,
-        lineage,
+        lineage: lineage_in(tag_named(r), tag, above),
         object,
         free,
     }

@@ -8,13 +8,13 @@
 ghost use Rattle.std.specs.Prelude.{◌≡◌, true, ◌≤◌, length};
 ghost use Rattle.memory.specs.Notes.{noted};
 ghost use Rattle.rules.specs.Tested.{hold_but_truth};
-ghost use Rattle.apply.specs.Writes.{written};
+ghost use Rattle.apply.specs.Writes.{rows_after, written};
 ghost use Rattle.act.specs.Step.{stepped};
 ghost use Rattle.act.specs.Act.{recall_of};
 ghost use Rattle.step.specs.Look.{seen_of, step_of};
 
 use act::{Recalled, act, asking_of, question_of};
-use apply::rows::Writes;
+use apply::rows::{RowWrite, Writes};
 use frames::requests::Request;
 use lent::{note, place_of, put_counts, put_object, put_tag, put_thread, sized, tally, thread_at};
 use memory::Note;
@@ -64,13 +64,23 @@ fn look(s: &State, frame: &[u8]) -> Seen
     }
 }
 
-// What a request writes into it: the counts, at most one row of each table, and what its question left.
+// The row that a request writes into the tables.
+fn write_row(s: &mut State, row: RowWrite)
+    ensures { s.new ≡ record { tables = rows_after s.old.tables row; memory = s.old.memory } }
+{
+    match row {
+        RowWrite::Keep => (),
+        RowWrite::Thread(n, row) => put_thread(s, n, row),
+        RowWrite::Tag(n, row) => put_tag(s, n, row),
+        RowWrite::Object(n, row) => put_object(s, n, row),
+    }
+}
+
+// What a request writes into it: at most one row, the counts, and what its question left.
 fn write_all(s: &mut State, w: Writes, n: Note)
     ensures { s.new ≡ record { tables = written s.old.tables w; memory = noted s.old.memory n } }
 {
-    put_thread(s, w.thread, w.thread_row);
-    put_tag(s, w.tag, w.tag_row);
-    put_object(s, w.object, w.object_row);
+    write_row(s, w.row);
     put_counts(s, w.counts);
     note(s, n);
 }

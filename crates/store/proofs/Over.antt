@@ -5,9 +5,9 @@ use Prim.Native.Nat.{ℕ, ◌+◌, ◌-◌, ◌≤◌, ◌<◌}
 use native.Mathlib.Numerals.{add-one}
 use native.Mathlib.Omega.{arith}
 use borrow.Rule.Slice.PartMut.{put_mid}
-use lib.ListN.{length, take, drop, set, replicate, length-append, length-drop, length-replicate, replicate-append-replicate, take-append-drop, get_or-append}
-use lib.Seq.{length-take-le, take-append-le, drop-append-le, take_at, drop_at, get_or-append-add, get_or-take, get_or-drop, set_split, drop-drop, take-suc, ext_get_or}
-use Rattle.store.specs.Store.{byte_at, part, over, cleared}
+use lib.ListN.{length, take, drop, set, length-append, length-drop, take-append-drop, get_or-append}
+use lib.Seq.{length-take-le, take-append-le, drop-append-le, take_at, drop_at, get_or-append-add, get_or-take, get_or-drop, set_split, drop-drop, ext_get_or}
+use Rattle.store.specs.Store.{byte_at, part, over}
 
 -- no bytes over a store leave it as it is
 pub over_none : (s : List ℕ) (at : ℕ) → over s at [] ≡ s
@@ -79,12 +79,6 @@ over-mid s at k bs e =
 pub part_length : (s : List ℕ) (from n : ℕ) → from + n ≤ length s → length (part s from n) ≡ n
 part_length s from n h = length-take-le n (drop from s) (simp length-drop (omega arith))
 
--- a part with one byte more, as a loop does
-pub part-next : (s : List ℕ) (from n : ℕ) → from + n < length s → part s from (n + 1) ≡ part s from n ++ (byte_at s (from + n) ∷ [])
-part-next s from n h =
-    ap (part s from) (add-one n) ∙ take-suc (drop from s) n 0 (simp length-drop (omega arith))
-    ∙ ap (λ (b : ℕ). part s from n ++ (b ∷ [])) (get_or-drop from s n 0)
-
 -- where they stand, any of their parts stands
 pub part-over :
     (s : List ℕ) (at : ℕ) (bs : List ℕ) (i n : ℕ) → at ≤ length s → i + n ≤ length bs → part (over s at bs) (at + i) n ≡ part bs i n
@@ -103,8 +97,3 @@ part_same s t j k n a b f =
     (λ i l.
     let l : i < n = omega arith in
     get_or-take n (drop j s) i 0 l ∙ get_or-drop j s i 0 ∙ f i l ∙ sym (get_or-take n (drop k t) i 0 l ∙ get_or-drop k t i 0))
-
--- one byte more is cleared
-pub cleared-next : (s : List ℕ) (from i : ℕ) → from + i < length s → set (cleared s from i) (from + i) 0 ≡ cleared s from (i + 1)
-cleared-next s from i h =
-    over-next s from (replicate i 0) i 0 (length-replicate i 0) h ∙ ap (over s from) (replicate-append-replicate i 1 0)

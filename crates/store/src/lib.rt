@@ -3,22 +3,20 @@
 // Which place is in use is not known here: the caller says where a place or an object begins.
 #![tactic(auto)]
 
-ghost use Rattle.std.specs.Prelude.{◌≡◌, ◌+◌, ◌≤◌, length};
+ghost use Rattle.std.specs.Prelude.{◌≡◌, List, ℕ, ◌+◌, ◌≤◌, eqb, length, map};
+ghost use Rattle.std.proofs.lemmas.List.{map-id};
 ghost use Rattle.store.specs.Store.{object_size, place_at, byte_at, message_at, zeros, cleared, put, took_first};
 
-use numbers::{MESSAGE, Object};
+use numbers::{MESSAGE, OBJECTS, Object, QUEUED};
 
 // A length byte, and room for the longest message.
-pub const PLACE: usize = 33;
+pub const PLACE: usize = 1 + MESSAGE;
 
 // 8 places.
-pub const OBJECT: usize = 264;
+pub const OBJECT: usize = QUEUED * PLACE;
 
 // 64 objects.
-pub const STORE: usize = 16896;
-
-// The bytes of the 7 places after an object's first.
-const AFTER_FIRST: usize = 231;
+pub const STORE: usize = OBJECTS * OBJECT;
 
 // Where place k of an object begins.
 pub fn place_at(o: Object, k: usize) -> usize
@@ -38,32 +36,50 @@ pub fn message(store: &[u8], at: usize) -> &[u8]
     &store[from..from + n]
 }
 
-// The n bytes from there on are zero.
-pub fn zeros(s: &[u8], from: usize, n: usize) -> bool
-    requires { from + n ≤ length s.now }
-    ensures { result ≡ zeros s.now from n }
-{
-    let mut ok = true;
-    let mut i = 0;
-    while i < n {
-        ok = (s[from + i] == 0) & ok;
-        i += 1;
-    }
-    ok
+// A number of up to 32 bits. A list of such numbers is a list of ℕ to a clause.
+pub trait Number: Copy {
+    ghost value: { Self → ℕ };
+
+    ghost values: { List Self → List ℕ };
+
+    fn value(self) -> u32
+        ensures { result ≡ value self };
+
+    ghost one_by_one: { (s : List Self) → map value s ≡ values s };
 }
 
-// The n numbers from there on are zero.
-pub fn zero_numbers(l: &[u32], from: usize, n: usize) -> bool
-    requires { from + n ≤ length l.now }
-    ensures { result ≡ zeros l.now from n }
-{
-    let mut ok = true;
-    let mut i = 0;
-    while i < n {
-        ok = (l[from + i] == 0) & ok;
-        i += 1;
+impl Number for u8 {
+    ghost value = { λ x. x };
+
+    ghost values = { λ s. s };
+
+    ghost one_by_one = { map-id };
+
+    fn value(self) -> u32 {
+        u32::from(self)
     }
-    ok
+}
+
+impl Number for u32 {
+    ghost value = { λ x. x };
+
+    ghost values = { λ s. s };
+
+    ghost one_by_one = { map-id };
+
+    fn value(self) -> u32 {
+        self
+    }
+}
+
+// The n numbers from there on are zero. All are read, whatever the first ones are.
+pub fn zeros<T: Number>(s: &[T], from: usize, n: usize) -> bool
+    requires { from + n ≤ length s.now }
+    ensures { result ≡ zeros (T.values s.now) from n }
+{
+    s[from..from + n]
+        .iter()
+        .fold(true, |ok, x| ok & (x.value() == 0))
 }
 
 // The n bytes from there on become zero.
@@ -71,11 +87,7 @@ pub fn clear(s: &mut [u8], from: usize, n: usize)
     requires { from + n ≤ length s.old }
     ensures { s.new ≡ cleared s.old from n }
 {
-    let mut i = 0;
-    while i < n {
-        s[from + i] = 0;
-        i += 1;
-    }
+    s[from..from + n].fill(0);
 }
 
 // The place that begins at `at` gets the message, and what follows in the place becomes zero.
@@ -97,14 +109,8 @@ pub fn take_first(store: &mut [u8], at: usize)
     requires { at + 264 ≤ length store.old }
     ensures { store.new ≡ took_first store.old at }
 {
-    let from = at + PLACE;
-    let mut i = 0;
-    while i < AFTER_FIRST {
-        store[at + i] = store[from + i];
-        i += 1;
-    }
-    let last = at + AFTER_FIRST;
-    clear(store, last, PLACE);
+    store.copy_within(at + PLACE..at + OBJECT, at);
+    clear(store, at + (OBJECT - PLACE), PLACE);
 }
 
 // The object whose places begin at `at` is freed: all its bytes become zero.

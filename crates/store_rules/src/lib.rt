@@ -7,7 +7,7 @@ ghost use Rattle.tables.specs.Rows.{what_of};
 ghost use Rattle.tables.specs.Things.{object_at};
 ghost use Rattle.store_rules.specs.StoreRules.{places_used, place_holds, places_hold, object_holds, store_holds};
 
-use numbers::{LONGEST, MESSAGE, OBJECTS};
+use numbers::MESSAGE;
 use store::{OBJECT, PLACE, zeros};
 use tables::rows::{ObjectRow, What};
 use tables::says::what_of;
@@ -17,10 +17,9 @@ fn places_used(what: What) -> usize
     ensures { result ≡ places_used what }
 {
     match what {
-        What::Free => 0,
         What::Cell => 1,
         What::Queue(held) => held,
-        What::Lock(_) => 0,
+        _ => 0,
     }
 }
 
@@ -29,12 +28,8 @@ fn place_holds(s: &[u8], at: usize) -> bool
     requires { at + 33 ≤ length s.now }
     ensures { result ≡ place_holds s.now at }
 {
-    let length = s[at];
-    if LONGEST < length {
-        return false;
-    }
-    let n = length as usize;
-    zeros(s, at + 1 + n, MESSAGE - n)
+    let n = usize::from(s[at]);
+    n <= MESSAGE && zeros(s, at + 1 + n, MESSAGE - n)
 }
 
 // So do the first n places of the object that begins there.
@@ -42,14 +37,7 @@ fn places_hold(s: &[u8], at: usize, n: usize) -> bool
     requires { (at + 264 ≤ length s.now) × (n ≤ 8) }
     ensures { result ≡ places_hold s.now at n }
 {
-    let mut ok = true;
-    let mut k = 0;
-    while k < n {
-        let holds = place_holds(s, at + k * PLACE);
-        ok = holds & ok;
-        k += 1;
-    }
-    ok
+    (0..n).all(|k| place_holds(s, at + k * PLACE))
 }
 
 // The object's places in use hold, and the others are zero.
@@ -58,23 +46,14 @@ fn object_holds(s: &[u8], at: usize, n: usize) -> bool
     ensures { result ≡ object_holds s.now at n }
 {
     let used = n * PLACE;
-    let unused = zeros(s, at + used, OBJECT - used);
-    unused & places_hold(s, at, n)
+    zeros(s, at + used, OBJECT - used) && places_hold(s, at, n)
 }
 
-// The store of these objects obeys both rules.
-pub fn store_holds(s: &[u8], rows: [ObjectRow; 64]) -> bool
+// The store of these objects obeys both rules. The test ends at the first object that does not.
+pub fn store_holds(s: &[u8], rows: &[ObjectRow; 64]) -> bool
     requires s_len { length s.now ≡ 16896 }
-    requires by_index { (o : ℕ) → o < 64 → places_used (what_of (object_at rows o)) ≤ 8 }
-    ensures { result ≡ store_holds s.now rows }
+    requires by_index { (o : ℕ) → o < 64 → places_used (what_of (object_at rows.now o)) ≤ 8 }
+    ensures { result ≡ store_holds s.now rows.now }
 {
-    let mut ok = true;
-    let mut o = 0;
-    while o < OBJECTS {
-        let row = rows[o];
-        let holds = object_holds(s, o * OBJECT, places_used(what_of(row)));
-        ok = holds & ok;
-        o += 1;
-    }
-    ok
+    rows.iter().enumerate().all(|(o, row)| object_holds(s, o * OBJECT, places_used(what_of(*row))))
 }

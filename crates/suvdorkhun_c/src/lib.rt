@@ -12,11 +12,10 @@ ghost use Rattle.suvdorkhun_c.specs.Listing.{listed};
 ghost use Rattle.suvdorkhun_c.specs.Size.{state_size};
 
 use entry::{Reply, request};
-use lent::{forget, put_whole};
-use records::{PrincipalLink, TagLink, principals, tags};
+use lent::forget;
+use records::{PrincipalLink, TagLink};
 use session::run;
 use state::{State, start};
-use tables::says::flag_of;
 
 // How many bytes a State has.
 const STATE_SIZE: usize = 3704;
@@ -48,10 +47,10 @@ pub extern "C" fn suvdorkhun_start(
     ensures grants_after { grants.new ≡ cleared_links (tag_link 0) grants.old }
     ensures store_after { store.new ≡ zeroed store.old }
 {
-    principals::clear(links);
-    tags::clear(grants);
+    records::clear(links);
+    records::clear(grants);
     let first = start(size, store);
-    put_whole(state, first.state);
+    *state = first.state;
     first.status
 }
 
@@ -96,10 +95,9 @@ pub extern "C" fn suvdorkhun_run(
     ensures out_after { out.new ≡ over out.old 0 (ran_bytes size store.old input.now out.old) }
 {
     let r = run(size, store, input, out);
-    let complete = flag_of(r.complete);
     Listed {
         status: r.status,
-        complete,
+        complete: u8::from(r.complete),
         read: r.read,
         written: r.written,
     }

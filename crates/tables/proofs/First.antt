@@ -1,55 +1,38 @@
--- A search from the front: at i, none of the first i is the one. Assumes nothing.
-use mathlib.Core.Path.{◌≡◌, ap, subst, ◌∙◌}
+-- What the lowest number is that is found from the front: its row is the one sought, and none before it is; and where there is no number,
+-- no row is. Assumes nothing.
+use mathlib.Core.Path.{◌≡◌, subst}
 use mathlib.Core.Bool.{Bool, true, false, cond}
-use mathlib.Core.List.{List, [], ◌∷◌}
+use mathlib.Core.List.{List}
 use mathlib.Core.Logic.{⊎_elim}
-use Prim.Native.Nat.{ℕ, zero, suc, ◌+◌, ◌≤◌, ◌<◌}
-use native.Mathlib.Numerals.{add-one}
+use Prim.Native.Nat.{ℕ, ◌<◌, ◌≤◌}
 use native.Mathlib.Omega.{arith}
-use lib.ListN.{length, get_or, drop, drop_of_length-le}
-use lib.Seq.{drop-cons}
+use borrow.Author.Tests.{ltb-false}
+use lib.Dec.{ltb}
+use lib.ListN.{length, get_or}
+use Rattle.std.specs.List.{position, position_or_len}
+use Rattle.std.proofs.Common.{Some, None}
+use Rattle.std.proofs.lemmas.List.Quantifiers.{position-Some}
+use Rattle.std.proofs.lemmas.List.Sums.{fails_before_first}
 use Rattle.numbers.proofs.Bools.{either}
-use Rattle.tables.specs.Free.{first_of}
 
-module _ (A : Type 0) (f : A → Bool) (d : A) (l : List A) (i : ℕ) where
-  pub stops : i < length l → f (get_or l i d) ≡ true → i + first_of f (drop i l) ≡ i
-  unfolding first_of
-  stops h e = simp (drop-cons l i d h, e) (omega arith)
+module _ (A : Type 0) (f : A → Bool) (d : A) (l : List A) where
+  -- it is among the rows
+  pub first-lt : (n : ℕ) → position f l ≡ Some n → n < length l
+  first-lt n e = (position-Some f l n d e).0
 
-  pub passes : i < length l → f (get_or l i d) ≡ false → i + first_of f (drop i l) ≡ i + 1 + first_of f (drop (i + 1) l)
-  unfolding first_of
-  passes h e = simp (add-one, drop-cons l i d h, e) (omega arith)
-
-  pub ends : length l ≤ i → i + first_of f (drop i l) ≡ i
-  unfolding first_of
-  ends h = simp (drop_of_length-le l h) (omega arith)
-
--- ---- what the place found is
-
-module _ (A : Type 0) (f : A → Bool) (d : A) where
-  -- it is among the rows or just past them
-  pub first-le : (l : List A) → first_of f l ≤ length l
-  unfolding first_of
-  first-le [] = omega arith
-  first-le (x ∷ l) = let h = first-le l in ⊎_elim (λ e. rw e (omega arith)) (λ e. rw e (omega arith)) (either (f x))
-
-  -- among the rows it is a free one
-  pub first-is : (l : List A) → first_of f l < length l → f (get_or l (first_of f l) d) ≡ true
-  unfolding first_of
-  first-is [] h = absurd (omega arith)
-  first-is (x ∷ l) h =
-      let n = first_of f l in
-      ⊎_elim
-      (λ e. ap (λ (b : Bool). f (get_or (x ∷ l) (cond b zero (suc n)) d)) e ∙ e)
-      (λ e. ap (λ (b : Bool). f (get_or (x ∷ l) (cond b zero (suc n)) d)) e ∙ first-is l (let k = subst (λ (b : Bool). cond b zero (suc n) < suc (length l)) e h in omega (arith, k)))
-      (either (f x))
+  -- it is a free one
+  pub first-is : (n : ℕ) → position f l ≡ Some n → f (get_or l n d) ≡ true
+  first-is n e = (position-Some f l n d e).1
 
   -- and none before it is
-  pub before-not : (l : List A) (j : ℕ) → j < first_of f l → f (get_or l j d) ≡ false
-  unfolding first_of
-  before-not [] j h = absurd (omega arith)
-  before-not (x ∷ l) zero h =
-      ⊎_elim (λ e. absurd (let k = subst (λ (b : Bool). zero < cond b zero (suc (first_of f l))) e h in omega (arith, k))) (λ e. e) (either (f x))
-  before-not (x ∷ l) (suc j) h =
-      let past : Bool → Type 0 = λ b. suc j < cond b zero (suc (first_of f l)) in
-      ⊎_elim (λ e. absurd (let k = subst past e h in omega (arith, k))) (λ e. before-not l j (let k = subst past e h in omega (arith, k))) (either (f x))
+  pub before-not : (n : ℕ) → position f l ≡ Some n → (j : ℕ) → j < n → f (get_or l j d) ≡ false
+  before-not n e = (position-Some f l n d e).2
+
+  -- where there is no number, none of the rows is
+  pub none-is : position f l ≡ None → (j : ℕ) → j < length l → f (get_or l j d) ≡ false
+  none-is e j h =
+      let n = position_or_len f l in
+      ⊎_elim
+      (λ q. absurd (let w = subst (λ (b : Bool). cond b (Some n) None ≡ None) q e in cc))
+      (λ q. let past : length l ≤ n = ltb-false n (length l) q in fails_before_first f l j d (omega arith))
+      (either (ltb n (length l)))

@@ -1,19 +1,13 @@
--- "New threads and objects take the lowest free number, freed ones included" (01). Assumes nothing.
-use Rattle.std.specs.Prelude.{Bool, not, cond, List, [], ◌∷◌, ℕ, zero, suc}
+-- "New threads and objects take the lowest free number, freed ones included" (01); none where each is taken. Assumes nothing.
+use Rattle.std.specs.Prelude.{Option, not, List, ℕ, position}
 use Rattle.tables.specs.declared.rows.ThreadRow.{ThreadRow}
 use Rattle.tables.specs.declared.rows.ObjectRow.{ObjectRow}
 use Rattle.tables.specs.Rows.{is_live, is_free, what_of}
 
--- the place of the first for which f holds, or the length
-unfoldable pub first_of : {A : Type 0} → (A → Bool) → List A → ℕ
-first_of f [] = zero
-first_of f (x ∷ l) = cond (f x) zero (suc (first_of f l))
+-- the lowest thread number that is not live
+abbrev pub free_thread : List ThreadRow → Option ℕ
+free_thread rows = position (λ r. not (is_live r.live)) rows
 
-abbrev pub not_live : ThreadRow → Bool
-not_live r = not (is_live r.live)
-
-abbrev pub free_thread : List ThreadRow → ℕ
-free_thread rows = first_of not_live rows
-
-abbrev pub free_object : List ObjectRow → ℕ
-free_object rows = first_of (λ (r : ObjectRow). is_free (what_of r)) rows
+-- the lowest object number that is free
+abbrev pub free_object : List ObjectRow → Option ℕ
+free_object rows = position (λ r. is_free (what_of r)) rows

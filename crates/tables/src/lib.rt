@@ -15,7 +15,7 @@ ghost use Rattle.tables.specs.Things.{fresh_tables};
 use crate::rows::{ObjectRow, TagRow, ThreadRow, no_object, no_tag, no_thread, office_thread};
 
 #[repr(C)]
-#[derive(Clone, Copy)]
+#[derive(Clone, Copy, PartialEq, Eq)]
 pub struct Tables {
     pub principals: u32,
     pub links: usize,

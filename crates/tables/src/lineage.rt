@@ -9,13 +9,10 @@ use links::{Lineage, Rooted};
 use numbers::{TAGS, Tag};
 
 // The row of a tag; past the last there is a row of nothing.
-fn tag_row(kinds: [TagRow; 64], n: usize) -> TagRow
-    ensures { result ≡ tag_at kinds n }
+fn tag_row(kinds: &[TagRow; 64], n: usize) -> TagRow
+    ensures { result ≡ tag_at kinds.now n }
 {
-    if TAGS <= n {
-        return no_tag();
-    }
-    kinds[n]
+    kinds.get(n).copied().unwrap_or(no_tag())
 }
 
 // The number of a tag's supertag, of which a supertag has none.
@@ -50,8 +47,8 @@ pub fn lineage_in(t: Tag, row: TagRow, above: TagRow) -> Lineage
     }
 }
 
-pub fn lineage(kinds: [TagRow; 64], t: Tag) -> Lineage
-    ensures { result ≡ lineage_of kinds t }
+pub fn lineage(kinds: &[TagRow; 64], t: Tag) -> Lineage
+    ensures { result ≡ lineage_of kinds.now t }
 {
     let row = tag_row(kinds, t.0 as usize);
     lineage_in(t, row, tag_row(kinds, supertag_of(row)))

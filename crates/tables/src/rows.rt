@@ -8,7 +8,7 @@ use numbers::{Label, LabelPair, OFFICE, PUBLIC, Principal, Tag};
 // "Each has a principal, a secrecy label, an integrity label, and up to 8 principals put aside by calls":
 // the first `calls` of them, the last one put aside last. `live` is 1, or 0.
 #[repr(C)]
-#[derive(Clone, Copy)]
+#[derive(Clone, Copy, PartialEq, Eq)]
 pub struct ThreadRow {
     pub live: u8,
     pub principal: Principal,
@@ -18,7 +18,7 @@ pub struct ThreadRow {
 }
 
 // "each a supertag or a subtag of one supertag"
-#[derive(Clone, Copy)]
+#[derive(Clone, Copy, PartialEq, Eq)]
 pub enum Rank {
     Supertag,
     SubtagOf(Tag),
@@ -26,7 +26,7 @@ pub enum Rank {
 
 // "Each tag has a root principal, its maker." `subtag` is 1 for a subtag of `supertag`, or 0.
 #[repr(C)]
-#[derive(Clone, Copy)]
+#[derive(Clone, Copy, PartialEq, Eq)]
 pub struct TagRow {
     pub root: Principal,
     pub subtag: u8,
@@ -34,7 +34,7 @@ pub struct TagRow {
 }
 
 // What an object number stands for: with how many messages a queue holds, and whether a lock is held.
-#[derive(Clone, Copy)]
+#[derive(Clone, Copy, PartialEq, Eq)]
 pub enum What {
     Free,
     Cell,
@@ -45,7 +45,7 @@ pub enum What {
 // "of kind 0 cell, 1 queue, 2 lock, each with two fixed labels". `live` is 1, or 0 for a number that is free; a
 // queue holds `held` messages; `locked` is 1 for a lock that is held, or 0.
 #[repr(C)]
-#[derive(Clone, Copy)]
+#[derive(Clone, Copy, PartialEq, Eq)]
 pub struct ObjectRow {
     pub live: u8,
     pub kind: u8,

@@ -21,7 +21,7 @@ use numbers::{CELL, LOCK, LabelPair, Principal, QUEUE, Tag};
 pub fn flag_of(set: bool) -> u8
     ensures { result ≡ flag_of set }
 {
-    if set { 1 } else { 0 }
+    u8::from(set)
 }
 
 pub fn is_live(live: u8) -> bool
@@ -31,14 +31,15 @@ pub fn is_live(live: u8) -> bool
 }
 
 // "each a supertag or a subtag of one supertag"
+#[tactic(auto, unfolding(crate::specs::Rows::rank_of))]
 pub fn rank_of(row: TagRow) -> Rank
     ensures { result ≡ rank_of row }
 {
-    let supertag = row.supertag;
     if row.subtag != 0 {
-        return Rank::SubtagOf(supertag);
+        Rank::SubtagOf(row.supertag)
+    } else {
+        Rank::Supertag
     }
-    Rank::Supertag
 }
 
 // The row of a tag of this rank.
@@ -62,12 +63,7 @@ pub fn tag_row_of(root: Principal, rank: Rank) -> TagRow
 pub fn is_free(what: What) -> bool
     ensures { result ≡ is_free what }
 {
-    match what {
-        What::Free => true,
-        What::Cell => false,
-        What::Queue(_) => false,
-        What::Lock(_) => false,
-    }
+    matches!(what, What::Free)
 }
 
 // The number of its kind; 0 where there is none.
@@ -87,38 +83,30 @@ pub fn held_in(what: What) -> usize
     ensures { result ≡ held_in what }
 {
     match what {
-        What::Free => 0,
-        What::Cell => 0,
         What::Queue(held) => held,
-        What::Lock(_) => 0,
+        _ => 0,
     }
 }
 
 pub fn is_locked(what: What) -> bool
     ensures { result ≡ is_locked what }
 {
-    match what {
-        What::Free => false,
-        What::Cell => false,
-        What::Queue(_) => false,
-        What::Lock(locked) => locked,
-    }
+    matches!(what, What::Lock(true))
 }
 
 // "of kind 0 cell, 1 queue, 2 lock"
+#[tactic(auto, unfolding(crate::specs::Rows::what_of))]
 pub fn what_of(row: ObjectRow) -> What
     ensures { result ≡ what_of row }
 {
     if row.live == 0 {
         return What::Free;
     }
-    if row.kind == CELL {
-        return What::Cell;
+    match row.kind {
+        CELL => What::Cell,
+        QUEUE => What::Queue(row.held),
+        _ => What::Lock(row.locked != 0),
     }
-    if row.kind == QUEUE {
-        return What::Queue(row.held);
-    }
-    What::Lock(row.locked != 0)
 }
 
 // The row of an object that is this.

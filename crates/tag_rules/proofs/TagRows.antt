@@ -14,7 +14,7 @@ use Rattle.tables.specs.Things.{tag_at}
 use Rattle.tables.specs.declared.rows.TagRow.{TagRow}
 use Rattle.tables.specs.declared.rows.Rank.{Rank}
 use Rattle.tables.specs.declared.rows.Rank.TheVariants.{Supertag, SubtagOf}
-use Rattle.tag_rules.specs.TagRules.{is_supertag, supertag_made, rank_holds, tag_numbers_hold, tag_holds, root_holds, above_of}
+use Rattle.tag_rules.specs.TagRules.{is_supertag, supertag_made, rank_holds, tag_numbers_hold, tag_holds, root_holds, above_of, row_passes}
 
 -- it is not a later row
 pub above-le : (k : Rank) (i : ℕ) → above_of k i ≤ i
@@ -48,9 +48,7 @@ absorbed a s n r f =
 
 -- the row of a made tag obeys the rules exactly when it passes the code's tests
 pub row-passes :
-    (principals tags : ℕ) (rows : List TagRow) (i : ℕ) → i < tags
-    → (tag_numbers_hold (tag_at rows i) && (root_holds principals (tag_at rows i).root && is_supertag (rank_of (tag_at rows (above_of (rank_of (tag_at rows i)) i)))))
-    ≡ tag_holds principals tags rows i (tag_at rows i)
+    (principals tags : ℕ) (rows : List TagRow) (i : ℕ) → i < tags → row_passes principals rows i ≡ tag_holds principals tags rows i (tag_at rows i)
 row-passes principals tags rows i l =
     let r = tag_at rows i in
     let k = rank_of r in

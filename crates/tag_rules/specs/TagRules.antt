@@ -65,3 +65,9 @@ root_holds principals root = ltb root.0 principals && not (eqb root.0 public)
 abbrev pub above_of : Rank → ℕ → ℕ
 above_of Supertag i = i
 above_of (SubtagOf t) i = cond (ltb t.0 i) t.0 i
+
+-- row i, of a tag that is made, passes the code's tests
+abbrev pub row_passes : ℕ → List TagRow → ℕ → Bool
+row_passes principals rows i =
+    let r = tag_at rows i in
+    tag_numbers_hold r && (root_holds principals r.root && is_supertag (rank_of (tag_at rows (above_of (rank_of r) i))))

@@ -2,8 +2,8 @@
 // and unused places.
 #![tactic(auto)]
 
-ghost use Rattle.std.specs.Prelude.{◌≡◌, ◌≤◌};
-ghost use Rattle.tag_rules.specs.TagRules.{is_supertag, is_no_tag, tag_numbers_hold, root_holds, above_of, tags_made, tags_unused, tags_hold};
+ghost use Rattle.std.specs.Prelude.{◌≡◌, ◌≤◌, ◌<◌};
+ghost use Rattle.tag_rules.specs.TagRules.{is_supertag, is_no_tag, tag_numbers_hold, root_holds, above_of, row_passes, tags_made, tags_unused, tags_hold};
 
 use numbers::{PUBLIC, Principal, TAGS};
 use tables::fields::is_flag;
@@ -13,10 +13,7 @@ use tables::says::rank_of;
 fn is_supertag(rank: Rank) -> bool
     ensures { result ≡ is_supertag rank }
 {
-    match rank {
-        Rank::Supertag => true,
-        Rank::SubtagOf(_) => false,
-    }
+    matches!(rank, Rank::Supertag)
 }
 
 // The flag is 0 or 1, and a tag that is no subtag has no supertag.
@@ -46,22 +43,23 @@ fn above_of(rank: Rank, i: usize) -> usize
     }
 }
 
-// The first n rows: plain numbers, roots that are made and not the public, and no subtag of a subtag or of a
-// later tag.
-fn tags_made(rows: [TagRow; 64], n: usize, principals: u32) -> bool
-    requires { n ≤ 64 }
-    ensures { result ≡ tags_made principals rows n }
+// Row i, of a tag that is made: plain numbers, a root that is made and not the public, and no subtag of a subtag
+// or of a later tag.
+fn row_passes(rows: &[TagRow; 64], i: usize, principals: u32) -> bool
+    requires { i < 64 }
+    ensures { result ≡ row_passes principals rows.now i }
 {
-    let mut ok = true;
-    let mut i = 0;
-    while i < n {
-        let row = rows[i];
-        let above = rows[above_of(rank_of(row), i)];
-        let ranked = root_holds(row.root, principals) & is_supertag(rank_of(above));
-        ok = (numbers_hold(row) & ranked) & ok;
-        i += 1;
-    }
-    ok
+    let row = rows[i];
+    let above = rows[above_of(rank_of(row), i)];
+    numbers_hold(row) & (root_holds(row.root, principals) & is_supertag(rank_of(above)))
+}
+
+// The rows of the first n tags, which are made, pass.
+fn tags_made(rows: &[TagRow; 64], n: usize, principals: u32) -> bool
+    requires { n ≤ 64 }
+    ensures { result ≡ tags_made principals rows.now n }
+{
+    (0..n).all(|i| row_passes(rows, i, principals))
 }
 
 // The row of a tag that is not made is zero.
@@ -72,26 +70,15 @@ fn is_no_tag(row: TagRow) -> bool
 }
 
 // "Nonzero unused place": the rows after the first n are zero.
-fn tags_unused(rows: [TagRow; 64], n: usize) -> bool
-    ensures { result ≡ tags_unused rows n }
+fn tags_unused(rows: &[TagRow; 64], n: usize) -> bool
+    ensures { result ≡ tags_unused rows.now n }
 {
-    let mut ok = true;
-    let mut i = 0;
-    while i < TAGS {
-        let row = rows[i];
-        ok = ((i < n) | is_no_tag(row)) & ok;
-        i += 1;
-    }
-    ok
+    rows.iter().skip(n).all(|row| is_no_tag(*row))
 }
 
-pub fn tags_hold(rows: [TagRow; 64], tags: u32, principals: u32) -> bool
-    ensures { result ≡ tags_hold principals tags rows }
+pub fn tags_hold(rows: &[TagRow; 64], tags: u32, principals: u32) -> bool
+    ensures { result ≡ tags_hold principals tags rows.now }
 {
     let n = tags as usize;
-    if TAGS < n {
-        return false;
-    }
-    let made = tags_made(rows, n, principals);
-    made & tags_unused(rows, n)
+    n <= TAGS && tags_made(rows, n, principals) && tags_unused(rows, n)
 }

@@ -1,22 +1,18 @@
-use mathlib.Core.Path.{refl}
+use mathlib.Core.Path.{◌∙◌}
 use native.Mathlib.Omega.{arith}
-use Rattle.numbers.proofs.Passes.{none_passed, one-passed, all-passed}
-use Rattle.memory_rules.specs.MemoryRules.{pairs_made}
-use Rattle.memory_rules.proofs.pairs_made.Invariants.{each}
+use borrow.Author.Tests.{tests}
+use lib.ListN.{take}
+use Rattle.std.proofs.Common.{rules}
+use Rattle.std.proofs.lemmas.Iterator.{YieldsList-from_slice}
+use Rattle.std.proofs.lemmas.Iterator.Search.{all_from_yields_List}
+use Rattle.numbers.proofs.BelowLists.{all_first}
+use Rattle.memory_rules.specs.MemoryRules.{pair_made, pairs_made}
 use Rattle.memory_rules.proofs.pairs_made.Goals as goal
-
-pub loop-i-init : goal.loop-i-init
-loop-i-init c = (omega arith, none_passed (each c.args.tags c.args.principals c.args.pairs.now))
-
-pub loop-i-preserved : goal.loop-i-preserved
-loop-i-preserved c =
-    let a = c.args in
-    let at = c.loop-i in
-    (omega arith, one-passed (each a.tags a.principals a.pairs.now) at.i refl at.invariant.1)
 
 pub returns : goal.returns
 unfolding pairs_made
 returns c =
     let a = c.args in
-    let at = c.loop-i in
-    all-passed (each a.tags a.principals a.pairs.now) at.i a.n at.invariant.1 at.invariant.0 (omega arith)
+    all_from_yields_List (pair_made a.tags a.principals) _ _ c.all.result c.all.ensures.ran
+    (YieldsList-from_slice (take a.n a.pairs.now) cc) (λ x b q k. search (rules, tests))
+    ∙ all_first (pair_made a.tags a.principals) 0 a.pairs.now a.n (omega arith)

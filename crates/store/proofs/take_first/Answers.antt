@@ -1,40 +1,27 @@
-use mathlib.Core.Path.{◌≡◌, sym, ap, ap₂, ◌∙◌}
-use mathlib.Core.List.{List}
-use Prim.Native.Nat.{ℕ, ◌+◌, ◌<◌}
+use mathlib.Core.Path.{◌≡◌, sym, ap, ◌∙◌}
+use mathlib.Core.List.{List, ◌++◌, append_assoc}
+use Prim.Native.Nat.{ℕ, ◌+◌, ◌-◌, ◌≤◌}
 use native.Mathlib.Omega.{arith}
-use lib.ListN.{length, set, replicate, length-set}
-use Rattle.store.specs.Store.{byte_at, part, over, cleared}
-use Rattle.store.proofs.Over.{over-next, over-after, over-over, part_length, part-next}
+use lib.ListN.{length, take, drop, replicate}
+use Rattle.std.specs.List.{copy_within}
+use Rattle.store.specs.Store.{part, cleared, took_first}
+use Rattle.store.proofs.Over.{over-over, part_length}
 use Rattle.store.proofs.take_first.Goals as goal
 
--- one byte more: what is read was not written yet
-turn :
-    (s : List ℕ) (at i : ℕ) → at + 33 + i < length s
-    → set (over s at (part s (at + 33) i)) (at + i) (byte_at (over s at (part s (at + 33) i)) (at + 33 + i)) ≡ over s at (part s (at + 33) (i + 1))
-turn s at i h =
-    let e : length (part s (at + 33) i) ≡ i = part_length s (at + 33) i (omega arith) in
-    ap (set (over s at (part s (at + 33) i)) (at + i)) (over-after s at (part s (at + 33) i) (at + 33 + i) (omega arith) (omega arith))
-    ∙ over-next s at (part s (at + 33) i) i (byte_at s (at + 33 + i)) e (omega arith)
-    ∙ ap (over s at) (sym (part-next s (at + 33) i h))
-
-pub loop-i-preserved : goal.loop-i-preserved
-loop-i-preserved c =
-    let a = c.args in
-    let i = c.loop-i.i in
-    let inv = c.loop-i.invariant in (
-      omega arith,
-      simp length-set inv.1,
-      ap (λ (s : List ℕ). set s (a.at + i) (byte_at s (a.at + 33 + i))) inv.2 ∙ turn a.store.now a.at i (omega arith),
-    )
+-- the other messages moved down, and the last place cleared
+moved : (s : List ℕ) (at : ℕ) → at + 264 ≤ length s → cleared (copy_within s (at + 33) (at + 264) at) (at + 231) 33 ≡ took_first s at
+moved s at h =
+    let p = part s (at + 33) 231 in
+    let m : length p ≡ 231 = part_length s (at + 33) 231 (omega arith) in
+    let k : at + 264 - (at + 33) ≡ 231 = omega arith in
+    ap (λ (n : ℕ). cleared ((take at s ++ take n (drop (at + 33) s)) ++ drop (at + n) s) (at + 231) 33) k
+    ∙ ap (λ (t : List ℕ). cleared t (at + 231) 33) (append_assoc (take at s) p (drop (at + 231) s))
+    ∙ ap (λ (n : ℕ). cleared (take at s ++ (p ++ drop (at + n) s)) (at + n) 33) (sym m)
+    ∙ over-over s at p (replicate 33 0) (omega arith)
 
 pub returns : goal.returns
 returns c =
     let a = c.args in
-    let i = c.loop-i.i in
-    let inv = c.loop-i.invariant in
-    let e : i ≡ 231 = omega arith in
-    let m : length (part a.store.now (a.at + 33) 231) ≡ 231 = part_length a.store.now (a.at + 33) 231 (omega arith) in
     c.clear.ensures
-    ∙ ap₂ (λ (s : List ℕ) (k : ℕ). cleared s (a.at + k) 33)
-    (inv.2 ∙ ap (λ (k : ℕ). over a.store.now a.at (part a.store.now (a.at + 33) k)) e) (sym m)
-    ∙ over-over a.store.now a.at (part a.store.now (a.at + 33) 231) (replicate 33 0) (omega arith)
+    ∙ ap (λ (s : List ℕ). cleared s (a.at + 231) 33) c.copy_within.ensures.after
+    ∙ moved a.store.now a.at (omega arith)

@@ -1,19 +1,17 @@
+use mathlib.Core.Path.{◌∙◌}
 use native.Mathlib.Omega.{arith}
-use Rattle.thread_rules.specs.ThreadRules.{threads_hold}
-use Rattle.numbers.proofs.Passes.{mapped, none_passed, one-passed, all-passed}
-use Rattle.thread_rules.proofs.threads_hold.Invariants.{each}
+use borrow.Author.Tests.{tests}
+use Rattle.std.proofs.Common.{rules}
+use Rattle.std.proofs.lemmas.Iterator.{YieldsList-from_slice}
+use Rattle.std.proofs.lemmas.Iterator.Search.{all_from_yields_List}
+use Rattle.numbers.proofs.BelowLists.{all_rows}
+use Rattle.tables.specs.Things.{past_thread}
+use Rattle.thread_rules.specs.ThreadRules.{thread_holds, threads_hold}
 use Rattle.thread_rules.proofs.threads_hold.Goals as goal
-
-pub loop-i-init : goal.loop-i-init
-loop-i-init c = (omega arith, search mapped depth 3, none_passed (each c.args.principals c.args.tags c.args.rows))
-
-pub loop-i-preserved : goal.loop-i-preserved
-loop-i-preserved c = let a = c.args in
-    let at = c.loop-i in
-    (omega arith, at.invariant.1, one-passed (each a.principals a.tags a.rows) at.i c.thread_holds-ok.ensures at.invariant.2)
 
 pub returns : goal.returns
 unfolding threads_hold
 returns c = let a = c.args in
-    let at = c.loop-i in
-    all-passed (each a.principals a.tags a.rows) at.i 16 at.invariant.2 at.invariant.0 (omega arith)
+    all_from_yields_List (thread_holds a.principals a.tags) _ _ c.all.result c.all.ensures.ran
+    (YieldsList-from_slice a.rows.now cc) (λ x b q k. search (rules, tests))
+    ∙ all_rows (thread_holds a.principals a.tags) past_thread a.rows.now 16 (omega arith)

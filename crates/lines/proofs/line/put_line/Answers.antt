@@ -28,15 +28,14 @@ turn s bs at i h r =
 
 pub loop-i-init : goal.loop-i-init
 unfolding digits_in
-loop-i-init c = (omega arith, refl, sym (over_none c.args.out.now c.args.at))
+loop-i-init c = (refl, sym (over_none c.args.out.now c.args.at))
 
 pub loop-i-preserved : goal.loop-i-preserved
 loop-i-preserved c =
     let a = c.args in
     let inv = c.loop-i.invariant in (
-      omega arith,
-      simp length-set inv.1,
-      rw (inv.2, c.digits_of-d.ensures) (turn a.out.now a.bytes.now a.at c.loop-i.i (omega arith) (omega arith)),
+      simp length-set inv.0,
+      rw (inv.1, c.digits_of-digits.ensures) (turn a.out.now a.bytes.now a.at c.loop-i.i (omega arith) (omega arith)),
     )
 
 pub returns : goal.returns
@@ -44,4 +43,4 @@ returns c =
     let a = c.args in
     let bs = a.bytes.now in
     let all : take c.loop-i.i bs ≡ bs = take_all c.loop-i.i bs (omega arith) in
-    rw (c.loop-i.invariant.2, all) (over-next a.out.now a.at (digits_in bs) (2 * length bs) line_feed (omega (arith, digits-length bs)) (omega arith))
+    rw (c.loop-i.invariant.1, all) (over-next a.out.now a.at (digits_in bs) (2 * length bs) line_feed (omega (arith, digits-length bs)) (omega arith))

@@ -1,21 +1,16 @@
-use native.Mathlib.Omega.{arith}
-use Rattle.numbers.proofs.Passes.{none_passed, one-passed, all-passed}
-use Rattle.rules.specs.Tested.{pairs_true}
-use Rattle.rules.proofs.truth.pairs_true.Invariants.{each}
+use Rattle.std.proofs.Common.{rules, ◌∙◌, take, arith}
+use borrow.Author.Tests.{tests}
+use Rattle.std.proofs.lemmas.Iterator.{YieldsList-from_slice}
+use Rattle.std.proofs.lemmas.Iterator.Search.{all_from_yields_List}
+use Rattle.numbers.proofs.BelowLists.{all_first}
+use Rattle.rules.specs.Tested.{pair_true, pairs_true}
 use Rattle.rules.proofs.truth.pairs_true.Goals as goal
-
-pub loop-i-init : goal.loop-i-init
-loop-i-init c = let a = c.args in (omega arith, none_passed (each a.t a.links.now a.grants.now a.m.pairs))
-
-pub loop-i-preserved : goal.loop-i-preserved
-loop-i-preserved c =
-    let a = c.args in
-    let at = c.loop-i in
-    (omega arith, one-passed (each a.t a.links.now a.grants.now a.m.pairs) at.i c.pair_true-yes.ensures at.invariant.1)
 
 pub returns : goal.returns
 unfolding pairs_true
 returns c =
     let a = c.args in
-    let at = c.loop-i in
-    all-passed (each a.t a.links.now a.grants.now a.m.pairs) at.i a.m.held at.invariant.1 at.invariant.0 (omega arith)
+    let t = a.t.now in
+    let each = pair_true t.kinds a.links.now t.links a.grants.now t.grants in
+    all_from_yields_List each _ _ _ c.all.ensures.ran (YieldsList-from_slice (take a.m.now.held a.m.now.pairs) cc) (λ x b q k. search (rules, tests))
+    ∙ all_first each 0 a.m.now.pairs a.m.now.held (omega (arith, c.requires.within, c.requires.small))
