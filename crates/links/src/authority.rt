@@ -29,7 +29,7 @@ pub struct Leaves<'a> {
     pub grants: LinkList<'a>,
 }
 
-impl<'a> LinkList<'a> {
+impl LinkList<'_> {
     // "P acts for Q when a path of zero or more principal links leads from Q to P."
     pub fn acts_for(self, p: Principal, q: Principal) -> bool
         ensures { result ≡ acts_for (links_in self.entry.places.now self.entry.used Principals) p q }
@@ -45,7 +45,7 @@ impl<'a> LinkList<'a> {
     }
 }
 
-impl<'a> Leaves<'a> {
+impl Leaves<'_> {
     // "P acts for some counted node of it": one walk from the root, and one from the whole set of counted nodes.
     fn acts_for_some(self, t: Rooted, p: Principal) -> bool
         ensures { result ≡ acts_for_some (links_in self.entry.links.places.now self.entry.links.used Principals) (links_of self.entry.grants.places.now self.entry.grants.used t) t.root p }

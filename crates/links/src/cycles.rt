@@ -6,7 +6,7 @@ ghost use Rattle.links.specs.Cycles.{closes_cycle};
 use crate::lists::{Graph, LinkList};
 use numbers::Principal;
 
-impl<'a> LinkList<'a> {
+impl LinkList<'_> {
     // A new link from p to q would close a cycle. For a tag it goes by the recorded path, counted or not.
     pub fn closes_cycle(self, g: Graph, p: Principal, q: Principal) -> bool
         ensures { result ≡ closes_cycle (links_in self.entry.places.now self.entry.used g) p q }

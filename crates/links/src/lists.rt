@@ -52,6 +52,12 @@ pub struct LinkList<'a> {
 }
 
 impl<'a> LinkList<'a> {
+    pub fn new(places: &'a [u32], used: usize) -> LinkList<'a>
+        ensures { (result.places ≡ places.entry) × (result.used ≡ used) }
+    {
+        LinkList { places, used }
+    }
+
     // Where a link stands among the places in use.
     pub fn find(self, x: u32) -> Option<usize>
         ensures { result ≡ find_in (take self.entry.used self.entry.places.now) x }

@@ -60,7 +60,7 @@ fn visit_each(rows: &[u64; 64], set: u64, seen: u64) -> u64
     s
 }
 
-impl<'a> LinkList<'a> {
+impl LinkList<'_> {
     // What paths of the graph's links lead to from some principal of a set.
     pub(crate) fn led_to_from(self, g: Graph, starts: u64) -> u64
         ensures { result ≡ led_to_from (links_in self.entry.places.now self.entry.used g) starts }

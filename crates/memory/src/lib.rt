@@ -160,11 +160,11 @@ fn brought(t: Tally, place: Option<usize>, pair: u32) -> Note
 
 // "A question .. is asked by 06, 09, 0B and 0C, once, when the authority check is reached. If the pair is
 // held it is a hit, and the yes is the memory's, with no walk; otherwise the walk answers."
-pub fn ask<'a>(
+pub fn ask(
     t: Tally,
     place: Option<usize>,
     pair: u32,
-    leaves: Leaves<'a>,
+    leaves: Leaves<'_>,
     x: Lineage,
     p: Principal,
 ) -> Verdict
