@@ -24,7 +24,7 @@ ghost use Rattle.decide_authority.specs.Authority.{
 
 use answers::{Answer, Refusal};
 use frames::requests::AuthorityRequest;
-use links::{Graph, Lineage, Rooted};
+use links::{Graph, Lineage, LinkList, Rooted};
 use numbers::{LINKS, PRINCIPALS, PUBLIC, Principal, TAGS, Tag};
 use outcomes::{
     ListChange, Outcome, RowChange, done, grants_changed, links_changed, refused, rows_changed,
@@ -46,14 +46,14 @@ fn own_of(l: Lineage) -> Rooted
 pub fn caller_acts_for(s: Sight, links: &[u32], p: Principal) -> bool
     ensures { result ≡ caller_acts_for s links.now p }
 {
-    links::acts_for(links, s.links, s.caller.principal, p)
+    LinkList::new(links, s.links).acts_for(s.caller.principal, p)
 }
 
 // "A counted node of T's own graph".
 fn is_counted(s: Sight, grants: &[u32], p: Principal) -> bool
     ensures { result ≡ counted s grants.now p }
 {
-    links::counted_node(grants, s.grants, own_of(s.lineage), p)
+    LinkList::new(grants, s.grants).counted_node(own_of(s.lineage), p)
 }
 
 fn is_public(p: Principal) -> bool
@@ -102,10 +102,11 @@ fn decide_delegate(s: Sight, links: &[u32], p: Principal, q: Principal) -> Outco
         return refused(Refusal::Authority);
     }
     let x = links::principal_link(p, q);
-    if links::stands(links, s.links, x) {
+    let list = LinkList::new(links, s.links);
+    if list.stands(x) {
         return done();
     }
-    if links::closes_cycle(links, s.links, Graph::Principals, p, q) {
+    if list.closes_cycle(Graph::Principals, p, q) {
         return refused(Refusal::Cycle);
     }
     if LINKS <= s.links {
@@ -132,7 +133,7 @@ fn decide_revoke(s: Sight, links: &[u32], p: Principal, q: Principal) -> Outcome
     if !caller_acts_for(s, links, p) {
         return refused(Refusal::Authority);
     }
-    let place = links::find(links, s.links, links::principal_link(p, q));
+    let place = LinkList::new(links, s.links).find(links::principal_link(p, q));
     links_changed(removal(place))
 }
 
@@ -141,7 +142,7 @@ fn decide_revoke(s: Sight, links: &[u32], p: Principal, q: Principal) -> Outcome
 fn tell_acts_for(s: Sight, links: &[u32], p: Principal, q: Principal) -> Outcome
     ensures { result ≡ tells_acts_for s links.now p q }
 {
-    tell(links::acts_for(links, s.links, p, q))
+    tell(LinkList::new(links, s.links).acts_for(p, q))
 }
 
 // 01 or 00
@@ -208,10 +209,11 @@ fn decide_grant<'a>(
         return refused(Refusal::Authority);
     }
     let x = links::tag_link(t, p, q);
-    if links::stands(grants, s.grants, x) {
+    let list = LinkList::new(grants, s.grants);
+    if list.stands(x) {
         return done();
     }
-    if links::closes_cycle(grants, s.grants, Graph::OfTag(t), p, q) {
+    if list.closes_cycle(Graph::OfTag(t), p, q) {
         return refused(Refusal::Cycle);
     }
     if LINKS <= s.grants {
@@ -235,7 +237,7 @@ fn decide_ungrant<'a>(
     if !caller_acts_for(s, links, p) {
         return refused(Refusal::Authority);
     }
-    let place = links::find(grants, s.grants, links::tag_link(t, p, q));
+    let place = LinkList::new(grants, s.grants).find(links::tag_link(t, p, q));
     grants_changed(removal(place))
 }
 

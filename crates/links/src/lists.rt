@@ -44,16 +44,31 @@ pub fn tag_link(t: Tag, p: Principal, q: Principal) -> u32
     (u32::from(t.0) * 256 + u32::from(p.0)) * 256 + u32::from(q.0)
 }
 
-// Where a link stands among the first n places.
-pub fn find(links: &[u32], n: usize, x: u32) -> Option<usize>
-    ensures { result ≡ find_in (take n links.now) x }
-{
-    links.iter().take(n).position(|l| *l == x)
+// A lent list of links, of which the first `used` places are in use; the count may lie.
+#[derive(Clone, Copy)]
+pub struct LinkList<'a> {
+    pub places: &'a [u32],
+    pub used: usize,
 }
 
-// Whether it stands among them.
-pub fn stands(links: &[u32], n: usize, x: u32) -> bool
-    ensures { result ≡ stands links.now n x }
-{
-    find(links, n, x).is_some()
+impl<'a> LinkList<'a> {
+    pub fn new(places: &'a [u32], used: usize) -> LinkList<'a>
+        ensures { (result.places ≡ places.entry) × (result.used ≡ used) }
+    {
+        LinkList { places, used }
+    }
+
+    // Where a link stands among the places in use.
+    pub fn find(self, x: u32) -> Option<usize>
+        ensures { result ≡ find_in (take self.entry.used self.entry.places.now) x }
+    {
+        self.places.iter().take(self.used).position(|l| *l == x)
+    }
+
+    // Whether it stands among them.
+    pub fn stands(self, x: u32) -> bool
+        ensures { result ≡ stands self.entry.places.now self.entry.used x }
+    {
+        self.find(x).is_some()
+    }
 }

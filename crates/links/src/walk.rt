@@ -10,7 +10,7 @@ ghost use Rattle.links.specs.Paths.{leads};
 ghost use Rattle.links.specs.Links.{is_link_of, links_from, links_in};
 ghost use Rattle.links.specs.Walk.{Rows, Met, led_to, led_to_from};
 
-use crate::lists::{Graph, base_of, used};
+use crate::lists::{Graph, LinkList, base_of, used};
 use numbers::Principal;
 
 // A number is that of a link of the graph with this base, and both ends name principals.
@@ -60,30 +60,33 @@ fn visit_each(rows: &[u64; 64], set: u64, seen: u64) -> u64
     s
 }
 
-// What paths of the graph's links lead to from some principal of a set.
-pub fn led_to_from(links: &[u32], n: usize, g: Graph, starts: u64) -> u64
-    ensures { result ≡ led_to_from (links_in links.now n g) starts }
-{
-    let mut rows = [0u64; 64];
-    gather(&links[..used(links.len(), n)], base_of(g), &mut rows);
-    visit_each(&rows, starts, 0)
-}
-
-// What they lead to from p.
-pub fn led_to(links: &[u32], n: usize, g: Graph, p: Principal) -> u64
-    ensures { result ≡ led_to (links_in links.now n g) p.0 }
-{
-    if 64 <= p.0 {
-        return 0;
+impl LinkList<'_> {
+    // What paths of the graph's links lead to from some principal of a set.
+    pub(crate) fn led_to_from(self, g: Graph, starts: u64) -> u64
+        ensures { result ≡ led_to_from (links_in self.entry.places.now self.entry.used g) starts }
+    {
+        let mut rows = [0u64; 64];
+        let in_use = used(self.places.len(), self.used);
+        gather(&self.places[..in_use], base_of(g), &mut rows);
+        visit_each(&rows, starts, 0)
     }
-    led_to_from(links, n, g, 1 << p.0)
-}
 
-// A path of the graph's links leads from p to q.
-pub fn leads(links: &[u32], n: usize, g: Graph, p: Principal, q: Principal) -> bool
-    ensures { result ≡ leads (links_in links.now n g) p.0 q.0 }
-{
-    p == q || has(led_to(links, n, g, p), q)
+    // What they lead to from p.
+    pub(crate) fn led_to(self, g: Graph, p: Principal) -> u64
+        ensures { result ≡ led_to (links_in self.entry.places.now self.entry.used g) p.0 }
+    {
+        if 64 <= p.0 {
+            return 0;
+        }
+        self.led_to_from(g, 1 << p.0)
+    }
+
+    // A path of the graph's links leads from p to q.
+    pub fn leads(self, g: Graph, p: Principal, q: Principal) -> bool
+        ensures { result ≡ leads (links_in self.entry.places.now self.entry.used g) p.0 q.0 }
+    {
+        p == q || has(self.led_to(g, p), q)
+    }
 }
 
 // A principal is in a set of principals.

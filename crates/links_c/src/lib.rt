@@ -10,21 +10,21 @@ ghost use Rattle.links.specs.Authority.{acts_for, authoritative};
 ghost use Rattle.links.specs.Cycles.{closes_cycle};
 ghost use Rattle.link_rules.specs.LinkRules.{links_hold};
 
-use links::{Graph, Lineage, Rooted};
+use links::{Graph, Leaves, Lineage, LinkList, Rooted};
 use numbers::{Principal, Tag};
 
 #[unsafe(no_mangle)]
 pub extern "C" fn links_acts_for(links: &[u32], n: usize, p: u8, q: u8) -> bool
     ensures { result ≡ acts_for (links_in links.now n Principals) (record { 0 = p }) (record { 0 = q }) }
 {
-    links::acts_for(links, n, Principal(p), Principal(q))
+    LinkList::new(links, n).acts_for(Principal(p), Principal(q))
 }
 
 #[unsafe(no_mangle)]
 pub extern "C" fn links_closes_cycle(links: &[u32], n: usize, t: u8, p: u8, q: u8) -> bool
     ensures { result ≡ closes_cycle (links_in links.now n (OfTag (record { 0 = t }))) (record { 0 = p }) (record { 0 = q }) }
 {
-    links::closes_cycle(links, n, Graph::OfTag(Tag(t)), Principal(p), Principal(q))
+    LinkList::new(links, n).closes_cycle(Graph::OfTag(Tag(t)), Principal(p), Principal(q))
 }
 
 // A supertag t of the maker r.
@@ -40,11 +40,15 @@ pub extern "C" fn links_authoritative(
 ) -> bool
     ensures { result ≡ authoritative (links_in links.now n Principals) tags.now m (Supertag (record { tag = record { 0 = t }; root = record { 0 = r } })) (record { 0 = p }) }
 {
+    let leaves = Leaves {
+        links: LinkList::new(links, n),
+        grants: LinkList::new(tags, m),
+    };
     let own = Rooted {
         tag: Tag(t),
         root: Principal(r),
     };
-    links::authoritative(links, n, tags, m, Lineage::Supertag(own), Principal(p))
+    leaves.authoritative(Lineage::Supertag(own), Principal(p))
 }
 
 // A subtag t of the maker r, of the supertag u of the maker s.
@@ -62,6 +66,10 @@ pub extern "C" fn links_authoritative_sub(
 ) -> bool
     ensures { result ≡ authoritative (links_in links.now n Principals) tags.now m (Subtag (record { tag = record { 0 = t }; root = record { 0 = r } }) (record { tag = record { 0 = u }; root = record { 0 = s } })) (record { 0 = p }) }
 {
+    let leaves = Leaves {
+        links: LinkList::new(links, n),
+        grants: LinkList::new(tags, m),
+    };
     let own = Rooted {
         tag: Tag(t),
         root: Principal(r),
@@ -70,7 +78,7 @@ pub extern "C" fn links_authoritative_sub(
         tag: Tag(u),
         root: Principal(s),
     };
-    links::authoritative(links, n, tags, m, Lineage::Subtag(own, above), Principal(p))
+    leaves.authoritative(Lineage::Subtag(own, above), Principal(p))
 }
 
 #[unsafe(no_mangle)]

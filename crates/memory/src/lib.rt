@@ -12,7 +12,7 @@ ghost use Rattle.links.specs.Authority.{authoritative};
 ghost use Rattle.memory.specs.Remembered.{pair_of, slid};
 ghost use Rattle.memory.specs.Notes.{renewed, as_is, wiped, counting, brought, judged};
 
-use links::Lineage;
+use links::{Leaves, Lineage};
 use numbers::{Principal, Tag, one_more};
 
 // A pair is the number of its principal * 256 + that of its tag. The first `held` places are in use.
@@ -72,7 +72,7 @@ pub fn pair_of(p: Principal, t: Tag) -> u32
 pub fn place(pairs: &[u32; 64], n: usize, x: u32) -> Option<usize>
     ensures { result ≡ find_in (take n pairs.now) x }
 {
-    links::find(pairs, n, x)
+    pairs.iter().take(n).position(|y| *y == x)
 }
 
 // The change is made. From a place past the last no pair comes to the front.
@@ -160,20 +160,17 @@ fn brought(t: Tally, place: Option<usize>, pair: u32) -> Note
 
 // "A question .. is asked by 06, 09, 0B and 0C, once, when the authority check is reached. If the pair is
 // held it is a hit, and the yes is the memory's, with no walk; otherwise the walk answers."
-pub fn ask<'a>(
+pub fn ask(
     t: Tally,
     place: Option<usize>,
     pair: u32,
-    links: &'a [u32],
-    n: usize,
-    tag_links: &'a [u32],
-    k: usize,
+    leaves: Leaves<'_>,
     x: Lineage,
     p: Principal,
 ) -> Verdict
-    ensures { result ≡ judged t place pair (authoritative (links_in links.now n Principals) tag_links.now k x p) }
+    ensures { result ≡ judged t place pair (authoritative (links_in leaves.entry.links.places.now leaves.entry.links.used Principals) leaves.entry.grants.places.now leaves.entry.grants.used x p) }
 {
-    let yes = place.is_some() || links::authoritative(links, n, tag_links, k, x, p);
+    let yes = place.is_some() || leaves.authoritative(x, p);
     let note = if yes {
         brought(t, place, pair)
     } else {

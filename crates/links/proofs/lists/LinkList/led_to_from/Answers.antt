@@ -8,7 +8,7 @@ use Rattle.links.specs.Walk.{led_to_from}
 use Rattle.links.proofs.Gathering.{rows_none}
 use Rattle.links.proofs.LedTo.{links_from-low, met-is}
 use Rattle.links.proofs.LinkLaws.{base-room, in_use}
-use Rattle.links.proofs.walk.led_to_from.Goals as goal
+use Rattle.links.proofs.lists.LinkList.led_to_from.Goals as goal
 
 pub gather-requires : goal.gather-requires
 gather-requires c = let base = c.base_of in
@@ -17,7 +17,7 @@ gather-requires c = let base = c.base_of in
 pub returns : goal.returns
 returns c = let a = c.args in
     let base = c.base_of in
-    let n = c.used in
-    let xs = take n.result a.links.now in
+    let n = c.used-in_use in
+    let xs = take n.result a.self.places.now in
     met-is (links_from base.result xs) (links_from-low base.result xs) _ c.gather.ensures a.starts c.visit_each.result c.ranges.starts.fits (omega (arith, c.visit_each.type_inv)) c.visit_each.ensures
-    ∙ ap (λ (ls : List Link). led_to_from ls a.starts) (in_use a.links.now a.n a.g base.result n.result base.ensures n.ensures)
+    ∙ ap (λ (ls : List Link). led_to_from ls a.starts) (in_use a.self.places.now a.self.used a.g base.result n.result base.ensures n.ensures)
