@@ -3,7 +3,7 @@ ghost use Rattle.std.specs.Prelude.{◌≡◌};
 ghost use Rattle.memory.specs.Remembered.{Fits};
 ghost use Rattle.rules.specs.Tested.{pair_true, pairs_true};
 
-use links::authoritative;
+use links::{Leaves, LinkList};
 use memory::Memory;
 use numbers::{Principal, Tag};
 use tables::Tables;
@@ -11,19 +11,12 @@ use tables::lineage::lineage;
 use tables::rows::TagRow;
 
 // The pair's principal is authoritative for its tag.
-fn pair_true<'a>(
-    kinds: &[TagRow; 64],
-    links: &'a [u32],
-    n: usize,
-    grants: &'a [u32],
-    k: usize,
-    x: u32,
-) -> bool
-    ensures { result ≡ pair_true kinds.now links.now n grants.now k x }
+fn pair_true(kinds: &[TagRow; 64], leaves: Leaves<'_>, x: u32) -> bool
+    ensures { result ≡ pair_true kinds.now leaves.entry.links.places.now leaves.entry.links.used leaves.entry.grants.places.now leaves.entry.grants.used x }
 {
     let p = Principal((x / 256 % 256) as u8);
     let tag = lineage(kinds, Tag((x % 256) as u8));
-    authoritative(links, n, grants, k, tag, p)
+    leaves.authoritative(tag, p)
 }
 
 // "A remembered pair .. untrue": none of those held is.
@@ -31,5 +24,11 @@ pub fn pairs_true(t: &Tables, m: &Memory, links: &[u32], grants: &[u32]) -> bool
     requires { Fits m.now }
     ensures { result ≡ pairs_true t.now m.now links.now grants.now }
 {
-    m.pairs[..m.held].iter().all(|x| pair_true(&t.kinds, links, t.links, grants, t.grants, *x))
+    let leaves = Leaves {
+        links: LinkList::new(links, t.links),
+        grants: LinkList::new(grants, t.grants),
+    };
+    m.pairs[..m.held]
+        .iter()
+        .all(|x| pair_true(&t.kinds, leaves, *x))
 }
