@@ -33,6 +33,6 @@ unknown_needs_none k h =
 pub in_table : {A : Type 0} (f : ℕ → A) (d : A) → ((k : ℕ) → 0x1C ≤ k → f k ≡ d) → (k : ℕ) → get_or (values f 0 0x1C) k d ≡ f k
 in_table f d past k =
     ⊎_elim
-      (λ e. entry f 0x1C k d (ltb-true k 0x1C e))
-      (λ e. let h : 0x1C ≤ k = ltb-false k 0x1C e in get_or-eq_default (values f 0 0x1C) d h ∙ sym (past k h))
-      (either (ltb k 0x1C))
+    (λ e. entry f 0x1C k d (ltb-true k 0x1C e))
+    (λ e. let h : 0x1C ≤ k = ltb-false k 0x1C e in get_or-eq_default (values f 0 0x1C) d h ∙ sym (past k h))
+    (either (ltb k 0x1C))

@@ -11,6 +11,6 @@ pub messages_hold-requires : goal.messages_hold-requires
 messages_hold-requires c =
     let t = c.args.t.now in
     elim c.if-lists_hold.branch [
-    | then-lists_hold w ↦ places-fit t.tags t.objects (and_right (threads_hold t.principals t.tags t.threads) _ (and_right (tags_hold t.principals t.tags t.kinds) _ (sym w.rows_hold.ensures ∙ sym w.value-is ∙ c.if-rows_hold.true)))
-    | else-lists_hold w ↦ absurd (never c.if-rows_hold.true (w.value-is ∙ w.if-lists_hold.false))
+      | then-lists_hold w ↦ places-fit t.tags t.objects (and_right (threads_hold t.principals t.tags t.threads) _ (and_right (tags_hold t.principals t.tags t.kinds) _ (sym w.rows_hold.ensures ∙ sym w.value-is ∙ c.if-rows_hold.true)))
+      | else-lists_hold w ↦ absurd (never c.if-rows_hold.true (w.value-is ∙ w.if-lists_hold.false))
     ]
