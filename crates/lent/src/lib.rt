@@ -4,7 +4,7 @@
 // Each function here is thin, and says in one equation which part it reads or replaces.
 #![tactic(auto)]
 
-ghost use Rattle.std.specs.Prelude.{◌≡◌, get_or, length, take};
+ghost use Rattle.std.specs.Prelude.{◌≡◌, get_or, length, set, take};
 ghost use Rattle.numbers.specs.Numbers.{most_threads, most_tags, most_objects, most_remembered};
 ghost use Rattle.tables.specs.Things.{no_thread, tag_at, object_at};
 ghost use Rattle.state.specs.Start.{cleared};
@@ -90,34 +90,32 @@ pub fn sized(s: &State)
 
 // ---- what is written
 
-#[tactic(auto, using(crate::proofs::Past::thread_past))]
+// A row of any table is replaced.
+#[tactic(auto, using(std::proofs::lemmas::List::set_past))]
+fn put_row<T: Copy>(rows: &mut [T], n: usize, row: T)
+    ensures { rows.new ≡ set rows.old n row }
+{
+    if n < rows.len() {
+        rows[n] = row;
+    }
+}
+
 pub fn put_thread(s: &mut State, n: usize, row: ThreadRow)
     ensures { s.new ≡ thread_put s.old n row }
 {
-    let rows: &mut [ThreadRow] = &mut s.tables.threads;
-    if n < rows.len() {
-        rows[n] = row;
-    }
+    put_row(&mut s.tables.threads, n, row);
 }
 
-#[tactic(auto, using(crate::proofs::Past::tag_past))]
 pub fn put_tag(s: &mut State, n: usize, row: TagRow)
     ensures { s.new ≡ tag_put s.old n row }
 {
-    let rows: &mut [TagRow] = &mut s.tables.kinds;
-    if n < rows.len() {
-        rows[n] = row;
-    }
+    put_row(&mut s.tables.kinds, n, row);
 }
 
-#[tactic(auto, using(crate::proofs::Past::object_past))]
 pub fn put_object(s: &mut State, n: usize, row: ObjectRow)
     ensures { s.new ≡ object_put s.old n row }
 {
-    let rows: &mut [ObjectRow] = &mut s.tables.objects;
-    if n < rows.len() {
-        rows[n] = row;
-    }
+    put_row(&mut s.tables.objects, n, row);
 }
 
 pub fn put_counts(s: &mut State, c: Counts)
