@@ -1,5 +1,5 @@
 use native.Mathlib.Omega.{arith}
-use Rattle.std.proofs.Common.{rules, ◌≡◌, not, length, Some}
+use Rattle.std.proofs.Common.{rules, ◌≡◌, not, Some}
 use Rattle.std.proofs.lemmas.List.Quantifiers.{position-Some}
 use Rattle.tables.specs.declared.rows.ThreadRow.{ThreadRow}
 use Rattle.tables.specs.declared.rows.ObjectRow.{ObjectRow}
