@@ -23,6 +23,7 @@ use frames::decode::{byte_at, request_of};
 use frames::form::well_formed;
 use frames::requests::Request;
 use lent::Counts;
+use links::{Leaves, LinkList};
 use memory::{Note, Tally, as_is, pair_of, wiped};
 use numbers::Thread;
 use outcomes::{ListChange, Outcome, refused};
@@ -95,10 +96,11 @@ fn follow_row<'a>(s: Sight, m: Recalled, links: &'a [u32], grants: &'a [u32], r:
             note: as_is(t),
         };
     };
-    let p = s.caller.principal;
-    let verdict = memory::ask(
-        t, m.place, pair, links, s.links, grants, s.grants, s.lineage, p,
-    );
+    let leaves = Leaves {
+        links: LinkList::new(links, s.links),
+        grants: LinkList::new(grants, s.grants),
+    };
+    let verdict = memory::ask(t, m.place, pair, leaves, s.lineage, s.caller.principal);
     Weighed {
         outcome: decide(s, links, grants, r, verdict.yes),
         note: verdict.note,
