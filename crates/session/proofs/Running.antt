@@ -87,14 +87,6 @@ module _ (size : ℕ) (b₀ input o : List ℕ) where
     within : 0 + length (fed_bytes z input o) ≤ length o
     within = over-fits o 0 (fed_bytes z input o) (omega arith) (sym (ap length h.bytes) ∙ h.kept)
 
-    -- and so does what the end writes after them
-    pub end-within :
-        {e : Option ℕ} {q : List ℕ} → e ≡ finished x p f.written → q ≡ over p f.written (end_bytes x p f.written) → length q ≡ length p
-        → f.written + unwrap_or e 0 ≤ length p
-    end-within {e} e-is w k =
-        let n : unwrap_or e 0 ≡ length (end_bytes x p f.written) = ap (λ (v : Option ℕ). unwrap_or v 0) e-is ∙ count-is (can_end x p f.written) (ending x) in
-        omega (arith, n, over-fits p f.written (end_bytes x p f.written) (omega (arith, wrote, within, h.kept)) (sym (ap length w) ∙ k))
-
     -- all of it, from what is written after the bytes of the block
     runs :
         {v : Carried} {q bs : List ℕ} {n : ℕ} {k : Bool} → k ≡ done → v ≡ cond k (ended y) y → bs ≡ cond k (ending y) [] → n ≡ length (fed_bytes z input o ++ bs)

@@ -30,49 +30,25 @@ loop-read-preserved c =
           w.out-is w.written-is
     ]
 
-pub returns-then-out-written-lt-ANSWER_ROOM-clause-value : goal.returns-then-out-written-lt-ANSWER_ROOM-clause-value
-returns-then-out-written-lt-ANSWER_ROOM-clause-value c =
+pub returns-then-out-written-lt-ANSWER_ROOM : goal.returns-then-out-written-lt-ANSWER_ROOM
+returns-then-out-written-lt-ANSWER_ROOM c =
     let a = c.args in
     let k = c.loop-read in
+    let z = session_of a.self.now a.store.now in
     let f = k.invariant in
-    value (session_of a.self.now a.store.now) a.input.now a.out.now f
-    (readable-full (session_of k.self k.store) (drop k.read a.input.now) (length a.out.now - k.written) (omega (arith, c.if-out-written-lt-ANSWER_ROOM.true, f.kept)))
+    let done = readable-full (session_of k.self k.store) (drop k.read a.input.now) (length a.out.now - k.written) (omega (arith, c.if-out-written-lt-ANSWER_ROOM.true, f.kept)) in
+    record { value = value z a.input.now a.out.now f done; session_after = whole z a.input.now a.out.now f done; out_after = all-bytes z a.input.now a.out.now f done }
 
-pub returns-then-out-written-lt-ANSWER_ROOM-clause-session_after : goal.returns-then-out-written-lt-ANSWER_ROOM-clause-session_after
-returns-then-out-written-lt-ANSWER_ROOM-clause-session_after c =
+pub returns : goal.returns
+returns c =
     let a = c.args in
     let k = c.loop-read in
-    let f = k.invariant in
-    whole (session_of a.self.now a.store.now) a.input.now a.out.now f
-    (readable-full (session_of k.self k.store) (drop k.read a.input.now) (length a.out.now - k.written) (omega (arith, c.if-out-written-lt-ANSWER_ROOM.true, f.kept)))
-
-pub returns-then-out-written-lt-ANSWER_ROOM-clause-out_after : goal.returns-then-out-written-lt-ANSWER_ROOM-clause-out_after
-returns-then-out-written-lt-ANSWER_ROOM-clause-out_after c =
-    let a = c.args in
-    let k = c.loop-read in
-    let f = k.invariant in
-    all-bytes (session_of a.self.now a.store.now) a.input.now a.out.now f
-    (readable-full (session_of k.self k.store) (drop k.read a.input.now) (length a.out.now - k.written) (omega (arith, c.if-out-written-lt-ANSWER_ROOM.true, f.kept)))
-
-pub returns-clause-value : goal.returns-clause-value
-returns-clause-value c =
-    let a = c.args in
-    let k = c.loop-read in
+    let z = session_of a.self.now a.store.now in
     let f = k.invariant in
     let end : k.read ≡ length a.input.now = omega (arith, f.within, c.loop-read-test.false) in
-    ap (λ (n : ℕ). record { read = n; written = k.written }) (sym end)
-    ∙ value (session_of a.self.now a.store.now) a.input.now a.out.now f (readable-end (session_of k.self k.store) a.input.now k.read (length a.out.now - k.written) c.loop-read-test.false)
-
-pub returns-clause-session_after : goal.returns-clause-session_after
-returns-clause-session_after c =
-    let a = c.args in
-    let k = c.loop-read in
-    whole (session_of a.self.now a.store.now) a.input.now a.out.now k.invariant
-    (readable-end (session_of k.self k.store) a.input.now k.read (length a.out.now - k.written) c.loop-read-test.false)
-
-pub returns-clause-out_after : goal.returns-clause-out_after
-returns-clause-out_after c =
-    let a = c.args in
-    let k = c.loop-read in
-    all-bytes (session_of a.self.now a.store.now) a.input.now a.out.now k.invariant
-    (readable-end (session_of k.self k.store) a.input.now k.read (length a.out.now - k.written) c.loop-read-test.false)
+    let done = readable-end (session_of k.self k.store) a.input.now k.read (length a.out.now - k.written) c.loop-read-test.false in
+    record {
+      value = ap (λ (n : ℕ). record { read = n; written = k.written }) (sym end) ∙ value z a.input.now a.out.now f done;
+      session_after = whole z a.input.now a.out.now f done;
+      out_after = all-bytes z a.input.now a.out.now f done;
+    }

@@ -8,28 +8,19 @@ use Rattle.session.proofs.Ending.{without-last, with-last}
 use Rattle.session.proofs.Session.finish.Goals as goal
 use Rattle.session.proofs.Session.finish.Goals.{then-self-eq0, else-self-eq0}
 
-pub returns-clause-value : goal.returns-clause-value
-returns-clause-value c =
-    let z = session_of c.args.self.now c.args.store.now in
-    let room : can_end z c.args.out.now c.args.at ≡ true = sym c.can_end.ensures ∙ c.if-not-can_end.false in
+pub returns : goal.returns
+returns c =
+    let a = c.args in
+    let z = session_of a.self.now a.store.now in
+    let room : can_end z a.out.now a.at ≡ true = sym c.can_end.ensures ∙ c.if-not-can_end.false in
     elim c.if-self-eq0.branch [
       | then-self-eq0 w ↦
-          (without-last z c.args.out.now c.args.at room c.put_last.ensures w.if-self-eq0.true (ap₂ session_of w.self-is w.store-is) w.n-is w.out-is).value
+          let r = without-last z a.out.now a.at room c.put_last.ensures w.if-self-eq0.true (ap₂ session_of w.self-is w.store-is) w.n-is w.out-is in
+          record { value = r.value; session_after = r.session; out_after = r.bytes }
       | else-self-eq0 w ↦
           let e = w.end_line-n.ensures in
-          (with-last z c.args.out.now c.args.at room c.put_last.ensures w.if-self-eq0.false (ap₂ session_of w.self-is w.store-is ∙ e.session_after) (w.n-is ∙ e.value)
-          (omega (arith, w.n-is, e.written_le_answer_room)) (w.out-is ∙ e.out_after)).value
-    ]
-
-pub returns-clause-out_after : goal.returns-clause-out_after
-returns-clause-out_after c =
-    let z = session_of c.args.self.now c.args.store.now in
-    let room : can_end z c.args.out.now c.args.at ≡ true = sym c.can_end.ensures ∙ c.if-not-can_end.false in
-    elim c.if-self-eq0.branch [
-      | then-self-eq0 w ↦
-          (without-last z c.args.out.now c.args.at room c.put_last.ensures w.if-self-eq0.true (ap₂ session_of w.self-is w.store-is) w.n-is w.out-is).bytes
-      | else-self-eq0 w ↦
-          let e = w.end_line-n.ensures in
-          (with-last z c.args.out.now c.args.at room c.put_last.ensures w.if-self-eq0.false (ap₂ session_of w.self-is w.store-is ∙ e.session_after) (w.n-is ∙ e.value)
-          (omega (arith, w.n-is, e.written_le_answer_room)) (w.out-is ∙ e.out_after)).bytes
+          let r =
+          with-last z a.out.now a.at room c.put_last.ensures w.if-self-eq0.false (ap₂ session_of w.self-is w.store-is ∙ e.session_after) (w.n-is ∙ e.value)
+          (omega (arith, w.n-is, e.written_le_answer_room)) (w.out-is ∙ e.out_after) in
+          record { value = r.value; session_after = r.session; out_after = r.bytes }
     ]
