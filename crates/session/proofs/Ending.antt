@@ -2,11 +2,10 @@
 -- LF. Assumes nothing.
 use mathlib.Core.Path.{◌≡◌, refl, sym, ap, ap₂, ◌∙◌}
 use mathlib.Core.Bool.{true, false, cond}
-use mathlib.Core.List.{List, [], ◌∷◌}
-use Prim.Native.Nat.{ℕ, ◌+◌, ◌/◌, ◌%◌, ◌^◌, ◌≤◌, ◌<◌}
+use mathlib.Core.List.{List, []}
+use Prim.Native.Nat.{ℕ, ◌+◌, ◌≤◌}
 use native.Mathlib.Omega.{arith}
 use Rattle.std.specs.Prelude.{Some, None}
-use Rattle.std.specs.Int.{w32, to_be_bytes}
 use borrow.Author.Tests.{lt-ltb, le-ltb, leb-true}
 use lib.ListN.{length, length-append}
 use Rattle.numbers.proofs.Chain.{skip, hit}
@@ -14,19 +13,13 @@ use Rattle.lines.specs.Lines.{digits_in}
 use Rattle.memory.specs.declared.Memory.{Memory}
 use Rattle.store.specs.Store.{over}
 use Rattle.store.proofs.Over.{over_none, over-over}
-use Rattle.session.specs.Session.{Carried, has_last, turned, printed, ended, ending, four_bytes, last_line}
+use Rattle.session.specs.Session.{Carried, has_last, turned, printed, ended, ending, last_line}
 use Rattle.session.specs.Run.{answer_room, ending_room, can_end, end_session, end_bytes, finished}
 
 -- the last line's 9 bytes and its LF
 pub last-length : (m : Memory) → length (last_line m) ≡ 19
 unfolding digits_in
 last-length m = refl
-
--- a counter's four bytes
-pub four-bytes : (n : ℕ) → n < 2 ^ 32 → to_be_bytes w32 n ≡ four_bytes n
-four-bytes n h =
-    let high : n / 16777216 % 256 ≡ n / 16777216 = omega arith in
-    ap (λ (k : ℕ). k ∷ n / 65536 % 256 ∷ n / 256 % 256 ∷ n % 256 ∷ []) high
 
 -- ---- the end of the input in the session z, with the output buffer o, at `at`
 
