@@ -17,7 +17,7 @@ use Rattle.memory.specs.declared.Memory.{Memory}
 use Rattle.memory.specs.declared.Note.{Note}
 use Rattle.memory.specs.declared.PairChange.TheVariants.{Keep, Front}
 use Rattle.memory.specs.Remembered.{Fits, held_pairs, counted, remembered, emptied, answered, slid}
-use Rattle.memory.specs.Notes.{tally_of, renewed, noted, as_is, wiped, counting, brought, judged}
+use Rattle.memory.specs.Notes.{tally_of, renewed, noted, as_is, wiped, counting, brought, among_places, judged}
 use Rattle.memory.proofs.Front.{with_front, found_at, moved, added, pushed, nothing}
 
 -- counting changes no pair
@@ -41,10 +41,10 @@ module _ (m : Memory) (x : ℕ) (w : Fits m) (long : length m.pairs ≡ 64) wher
   from_place held hits k h = ap (λ (p : List ℕ). record { size = m.size; held = held; pairs = p; questions = one_more m.questions; hits = hits }) (renewed-front k x m.pairs h)
 
   -- it is held at k
-  held_at : (k : ℕ) → find_in (held_pairs m) x ≡ Some k → noted m (brought (tally_of m) (Some k) x) ≡ remembered (counted m true) x
+  held_at : (k : ℕ) → find_in (held_pairs m) x ≡ Some k → (among_places (Some k) ≡ Some k) × (noted m (brought (tally_of m) (Some k) x) ≡ remembered (counted m true) x)
   held_at k e =
       let inside : k < length m.pairs = omega (arith, (found_at (held_pairs m) x k e).0, length-take m.held m.pairs) in
-      from_place m.held (one_more m.hits) k inside ∙ moved (counted m true) x w.within room k e
+      (sym (hit None (lt-ltb k 64 (omega (arith, inside, long))) refl), from_place m.held (one_more m.hits) k inside ∙ moved (counted m true) x w.within room k e)
 
   -- it is not held
   module _ (none : find_in (held_pairs m) x ≡ None) where
@@ -75,7 +75,7 @@ module _ (m : Memory) (x : ℕ) (w : Fits m) (long : length m.pairs ≡ 64) wher
   judged-is walk = ends (find_in (held_pairs m) x) refl walk
     where
       ends : (f : Option ℕ) → find_in (held_pairs m) x ≡ f → (b : Bool) → Same f b
-      ends (Some k) e b = rw e (refl, held_at k e)
+      ends (Some k) e b = let h = held_at k e in rw (e, h.0) (refl, h.1)
       ends None e true = rw e (refl, not-held e)
       ends None e false = rw e (refl, refl)
 

@@ -1,6 +1,6 @@
 -- What is read and written of a memory in place: its numbers, and what a question leaves to write. Assumes nothing.
 use Rattle.std.specs.Prelude.{Bool, true, false, cond, List, ℕ, ◌+◌, ◌-◌, ltb, length, replicate, Option, Some, None}
-use Rattle.numbers.specs.Numbers.{one_more}
+use Rattle.numbers.specs.Numbers.{one_more, most_remembered}
 use Rattle.memory.specs.declared.Memory.{Memory}
 use Rattle.memory.specs.declared.Tally.{Tally}
 use Rattle.memory.specs.declared.PairChange.{PairChange}
@@ -49,8 +49,17 @@ module _ (t : Tally) where
       (counting t.held t.hits (Front (t.held - 1) x)))
 
   -- of the pair that is held at a place, or at none, where the walk would answer so; "on no the memory stays"
-  abbrev pub judged : Option ℕ → ℕ → Bool → Verdict
-  judged (Some k) x walk = record { yes = true; note = brought (Some k) x }
-  judged None x walk =
+  abbrev pub judged_at : Option ℕ → ℕ → Bool → Verdict
+  judged_at (Some k) x walk = record { yes = true; note = brought (Some k) x }
+  judged_at None x walk =
       cond walk (record { yes = true; note = brought None x })
       (record { yes = false; note = counting t.held t.hits Keep })
+
+-- a place of the memory; past the last no pair is held
+abbrev pub among_places : Option ℕ → Option ℕ
+among_places (Some k) = cond (ltb k most_remembered) (Some k) None
+among_places None = None
+
+-- the same of any place, one past the last too
+abbrev pub judged : Tally → Option ℕ → ℕ → Bool → Verdict
+judged t k x walk = judged_at t (among_places k) x walk

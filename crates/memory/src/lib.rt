@@ -10,10 +10,10 @@ ghost use Rattle.links.specs.declared.lists.Graph.TheVariants.{Principals};
 ghost use Rattle.links.specs.Links.{find_in, links_in};
 ghost use Rattle.links.specs.Authority.{authoritative};
 ghost use Rattle.memory.specs.Remembered.{pair_of, slid};
-ghost use Rattle.memory.specs.Notes.{renewed, as_is, wiped, counting, brought, judged};
+ghost use Rattle.memory.specs.Notes.{renewed, as_is, wiped, counting, brought, among_places, judged};
 
 use links::{Leaves, Lineage};
-use numbers::{Principal, Tag, one_more};
+use numbers::{Principal, REMEMBERED, Tag, one_more};
 
 // A pair is the number of its principal * 256 + that of its tag. The first `held` places are in use.
 #[repr(C)]
@@ -158,6 +158,13 @@ fn brought(t: Tally, place: Option<usize>, pair: u32) -> Note
     }
 }
 
+// A place of the memory. Past the last no pair is held, whatever the caller says.
+fn among_places(place: Option<usize>) -> Option<usize>
+    ensures { result ≡ among_places place }
+{
+    place.filter(|k| *k < REMEMBERED)
+}
+
 // "A question .. is asked by 06, 09, 0B and 0C, once, when the authority check is reached. If the pair is
 // held it is a hit, and the yes is the memory's, with no walk; otherwise the walk answers."
 pub fn ask(
@@ -170,6 +177,7 @@ pub fn ask(
 ) -> Verdict
     ensures { result ≡ judged t place pair (authoritative (links_in leaves.entry.links.places.now leaves.entry.links.used Principals) leaves.entry.grants.places.now leaves.entry.grants.used x p) }
 {
+    let place = among_places(place);
     let yes = place.is_some() || leaves.authoritative(x, p);
     let note = if yes {
         brought(t, place, pair)
