@@ -1,14 +1,13 @@
 -- What a request comes to has room in tables that obey the rules of 9: what is new has a place, what changes is there, and so is the
 -- message of an answer. The laws match on what is known of it, group by group. Assumes nothing.
 use mathlib.Core.Path.{◌≡◌, refl, ap, ◌∙◌}
-use mathlib.Core.Bool.{Bool, true, false, not, cond}
+use mathlib.Core.Bool.{Bool, true, false, cond}
 use mathlib.Core.List.{List}
 use Prim.Native.Nat.{ℕ, ◌+◌, ◌≤◌, ◌<◌}
 use native.Mathlib.Omega.{arith}
 use borrow.Author.Tests.{leb-true}
 use lib.Dec.{leb}
 use lib.ListN.{length}
-use Rattle.std.proofs.lemmas.List.Quantifiers.{position-Some}
 use Rattle.numbers.specs.Numbers.{most_threads, most_put_aside, most_objects, most_queued}
 use Rattle.numbers.proofs.Bools.{and_right, by-test, implies}
 use Rattle.links.proofs.LinkLaws.{found-used}
@@ -17,10 +16,9 @@ use Rattle.memory.specs.declared.Memory.{Memory}
 use Rattle.tables.specs.Rows.{is_live, is_free, what_of}
 use Rattle.tables.specs.declared.Tables.{Tables}
 use Rattle.tables.specs.declared.rows.ThreadRow.{ThreadRow}
-use Rattle.tables.specs.declared.rows.ObjectRow.{ObjectRow}
 use Rattle.tables.specs.declared.rows.What.{What}
 use Rattle.tables.specs.declared.rows.What.TheVariants as what
-use Rattle.tables.specs.Things.{no_thread, no_object, thread_at, object_at}
+use Rattle.tables.specs.Things.{thread_at, object_at}
 use Rattle.tables.proofs.Among.{live-among, used-among}
 use Rattle.lent.specs.Lent.{counts_of}
 use Rattle.rules.specs.Rules.{OnlyTruthBroken}
@@ -139,9 +137,7 @@ module _
       thread-room (thread.is-in a) = rows-room _ _ tt tt
       thread-room (thread.into-integrity a b c) = rows-room _ _ tt low
       thread-room thread.out-of-integrity = rows-room _ _ tt low
-      thread-room (thread.forks k a b free) =
-          let among = position-Some (λ (r : ThreadRow). not (is_live r.live)) t.threads k no_thread free in
-          rows-room _ _ tt (omega (arith, among.0, threads), low)
+      thread-room (thread.forks k a b free room) = rows-room _ _ tt (room, low)
       thread-room thread.ends = rows-room _ _ tt low
       thread-room (thread.calls a b room) = rows-room _ _ tt (low, room)
       thread-room (thread.returns some) = rows-room _ _ tt (low, some, aside)
@@ -162,9 +158,7 @@ module _
     -- messages that are put fit, and those that are answered are within the limit
     object-room : {r : ObjectRequest} {o : Outcome} → ObjectSpans f r → object.ObjectComes (sight (OfObject r)) r o → Roomy o
     object-room m (object.stops x) = rows-room _ _ tt tt
-    object-room m (object.makes k a b free) =
-        let among = position-Some (λ (r : ObjectRow). is_free (what_of r)) t.objects k no_object free in
-        rows-room _ _ tt (omega (arith, among.0, objects))
+    object-room m (object.makes k a b free room) = rows-room _ _ tt room
     object-room m (object.deletes {o} used) = let low = in_use o.0 _ refl used in both-room _ _ _ tt (places o.0 low) low
     object-room m (object.reads {o} e) =
         let low = in_use o.0 what.Cell e refl in

@@ -115,14 +115,14 @@ module _ (s : Sight) (l g : List ℕ) (allowed : Bool) where
   thread-stands (thread.is-in a) = inl refl
   thread-stands (thread.into-integrity a b c) = inl refl
   thread-stands thread.out-of-integrity = inl refl
-  thread-stands (thread.forks n a b c) = inl refl
+  thread-stands (thread.forks n a b c d) = inl refl
   thread-stands thread.ends = inl refl
   thread-stands (thread.calls a b c) = inl refl
   thread-stands (thread.returns a) = inl refl
 
   object-stands : {r : ObjectRequest} {o : Outcome} → object.ObjectComes s r o → Stands o
   object-stands (object.stops x) = inr (x, refl)
-  object-stands (object.makes n a b c) = inl refl
+  object-stands (object.makes n a b c d) = inl refl
   object-stands (object.deletes a) = inl refl
   object-stands (object.reads a) = inl refl
   object-stands (object.writes a) = inl refl

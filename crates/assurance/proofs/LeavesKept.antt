@@ -85,7 +85,7 @@ module _ (k : Known) (w : World) (holds : WorldHolds w) (sized : SizedWorld w) (
   -- kinds 12 to 19
   object-learns : {r : ObjectRequest} {o : Outcome} → object.ObjectComes (sees (OfObject r)) r o → Learns (OfObject r) o
   object-learns {r} (object.stops x) = refused-learns (OfObject r) x
-  object-learns (object.makes o b c d) = elsewhere knows _ _
+  object-learns (object.makes o b c d e) = elsewhere knows _ _
   object-learns (object.deletes b) = elsewhere knows _ _
   object-learns (object.reads b) = knows
   object-learns (object.writes b) = elsewhere knows _ _
@@ -115,7 +115,7 @@ module _ (k : Known) (w : World) (holds : WorldHolds w) (sized : SizedWorld w) (
     thread-learns (thread.is-in b) = knows
     thread-learns (thread.into-integrity b c d) = labels-learnt knows n low _
     thread-learns thread.out-of-integrity = labels-learnt knows n low _
-    thread-learns (thread.forks {p} o b c free) = row-learnt knows _ (position-Some (λ (r : ThreadRow). not (is_live r.live)) t.threads o no_thread free).0 (forked own p) (p.0 ∷ []) (λ e. record { list = refl; places = refl })
+    thread-learns (thread.forks {p} o b c free room) = row-learnt knows _ (position-Some (λ (r : ThreadRow). not (is_live r.live)) t.threads o no_thread free).0 (forked own p) (p.0 ∷ []) (λ e. record { list = refl; places = refl })
     thread-learns thread.ends = row-learnt knows n low no_thread [] (λ e. absurd (never e refl))
     thread-learns (thread.calls {p} b c room) = row-learnt knows n low (called own p) _ (λ e. called-ran (knows.runs n live) p room)
     thread-learns (thread.returns some) = row-learnt knows n low (back_from own) _ (λ e. back-ran (knows.runs n live) some)

@@ -107,7 +107,7 @@ module _ (w : World) (holds : WorldHolds w) (sized : SizedWorld w) (f : List ℕ
 
   pub object-keeps : {r : ObjectRequest} {o : Outcome} → ObjectSpans f r → comes.ObjectComes (sight_of w.tables (thread_of f) (OfObject r)) r o → WorldHolds (applied w f o)
   object-keeps spans (comes.stops x) = holds
-  object-keeps spans (comes.makes {k} {l} n a b free) = object-made k l n ((labels-are w.tables.tags l).1 (a, b)) free
+  object-keeps spans (comes.makes {k} {l} n a b free room) = object-made k l n ((labels-are w.tables.tags l).1 (a, b)) free
   object-keeps spans (comes.deletes {o} used) =
       let low = in_use o _ refl used in
       objects-changed _ _ (object-freed holds.objects o.0) (store-whole-freed s holds.whole low) (store-freed sized.objects holds.whole holds.store low)

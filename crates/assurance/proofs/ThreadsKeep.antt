@@ -85,7 +85,7 @@ module _ (w : World) (holds : WorldHolds w) (sized : SizedWorld w) (f : List ℕ
   thread-keeps (comes.is-in a) = holds
   thread-keeps (comes.into-integrity {t} made a b) = labels-changed _ _ both.0 (made-with own.labels.integrity t w.tables.tags (ltb-true t.0 w.tables.tags made) both.1)
   thread-keeps (comes.out-of-integrity {t}) = labels-changed _ _ both.0 (without-made w.tables.tags own.labels.integrity t both.1)
-  thread-keeps (comes.forks {p} n made a b) = row-changed _ _ (forked-holds own-holds live (ltb-true p.0 w.tables.principals made))
+  thread-keeps (comes.forks {p} n made a b room) = row-changed _ _ (forked-holds own-holds live (ltb-true p.0 w.tables.principals made))
   thread-keeps comes.ends = row-changed _ _ ended-holds
   thread-keeps (comes.calls {p} made a room) = row-changed _ _ (called-holds own-holds live room (ltb-true p.0 w.tables.principals made))
   thread-keeps (comes.returns some) = row-changed _ _ (back-holds own-holds live some)

@@ -109,14 +109,14 @@ module _ (w : World) (holds : WorldHolds w) (sized : SizedWorld w) (f : List ℕ
     thread-grows (thread.is-in a) = inr before
     thread-grows (thread.into-integrity a b c) = inr before
     thread-grows thread.out-of-integrity = inr before
-    thread-grows (thread.forks n a b c) = inr before
+    thread-grows (thread.forks n a b c d) = inr before
     thread-grows thread.ends = inr before
     thread-grows (thread.calls a b c) = inr before
     thread-grows (thread.returns a) = inr before
 
     object-grows : {r : ObjectRequest} {o : Outcome} → object.ObjectComes (sight_of w.tables (thread_of f) (OfObject r)) r o → Grows o
     object-grows (object.stops y) = inr before
-    object-grows (object.makes n a b c) = inr before
+    object-grows (object.makes n a b c d) = inr before
     object-grows (object.deletes a) = inr before
     object-grows (object.reads a) = inr before
     object-grows (object.writes a) = inr before

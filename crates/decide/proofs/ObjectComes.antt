@@ -9,7 +9,7 @@ use Rattle.std.specs.Prelude.{Option, Some, None}
 use Rattle.numbers.specs.declared.Object.{Object}
 use Rattle.numbers.specs.declared.flow.LabelPair.{LabelPair}
 use Rattle.numbers.specs.Labels.{names_only_made}
-use Rattle.numbers.specs.Numbers.{most_queued}
+use Rattle.numbers.specs.Numbers.{most_objects, most_queued}
 use Rattle.numbers.proofs.Bools.{and_left, and_right, by-test}
 use Rattle.store.specs.Store.{place_at}
 use Rattle.tables.specs.Rows.{is_free, held_in, is_locked, what_of, object_row}
@@ -56,10 +56,10 @@ is-lock (what.Lock locked) e = refl
 by-free :
     (P : Outcome → Type 0) (k : ObjectKind) (l : LabelPair) (x : Option ℕ) →
     P (refused Full) →
-    ((n : ℕ) → x ≡ Some n → P (rows_changed (Value n) (rows.Object n (object_row (empty_of k) l)))) →
+    ((n : ℕ) → x ≡ Some n → n < most_objects → P (rows_changed (Value n) (rows.Object n (object_row (empty_of k) l)))) →
     P (made_at k l x)
 by-free P k l None full one = full
-by-free P k l (Some n) full one = one n refl
+by-free P k l (Some n) full one = by-test P (leb most_objects n) (λ e. full) (λ room. one n refl (leb-false most_objects n room))
 
 module _ (s : Sight) where
   -- what the object is that the request names
@@ -73,6 +73,7 @@ module _ (s : Sight) where
         names_only_made l.secrecy s.tags ≡ true →
         names_only_made l.integrity s.tags ≡ true →
         s.free ≡ Some n →
+        n < most_objects →
         ObjectComes (New k l) (rows_changed (Value n) (rows.Object n (object_row (empty_of k) l)))
     deletes : {o : Object} → is_free is ≡ false → ObjectComes (Delete o) (object_changed Done (store.Free (place_at o.0 0)) (rows.Object o.0 no_object))
     reads : {o : Object} → is ≡ what.Cell → ObjectComes (ReadCell o) (rows_changed (Kept (place_at o.0 0)) rows.Keep)

@@ -11,7 +11,7 @@ use Rattle.numbers.specs.declared.Principal.{Principal}
 use Rattle.numbers.specs.declared.Tag.{Tag}
 use Rattle.numbers.specs.declared.flow.LabelPair.{LabelPair}
 use Rattle.numbers.specs.Labels.{has, with_tag, without_tag}
-use Rattle.numbers.specs.Numbers.{most_put_aside}
+use Rattle.numbers.specs.Numbers.{most_threads, most_put_aside}
 use Rattle.numbers.proofs.Bools.{by-test}
 use Rattle.frames.specs.declared.requests.ThreadRequest.{ThreadRequest}
 use Rattle.frames.specs.declared.requests.ThreadRequest.TheVariants.{IntoSecrecy, OutOfSecrecy, IntoIntegrity, OutOfIntegrity, Fork, End, Call, Return}
@@ -30,10 +30,10 @@ use Rattle.decide_threads.specs.Threads.{with_labels, out_of_secrecy, into_integ
 by-free :
     (P : Outcome → Type 0) (p : Principal) (x : Option ℕ) →
     P (refused Full) →
-    ((n : ℕ) → x ≡ Some n → P (rows_changed (Value n) (rows.NewThread n p))) →
+    ((n : ℕ) → x ≡ Some n → n < most_threads → P (rows_changed (Value n) (rows.NewThread n p))) →
     P (forked_to p x)
 by-free P p None full one = full
-by-free P p (Some n) full one = one n refl
+by-free P p (Some n) full one = by-test P (leb most_threads n) (λ e. full) (λ room. one n refl (leb-false most_threads n room))
 
 module _ (s : Sight) (l : List ℕ) (allowed : Bool) where
   -- the caller's labels
@@ -62,6 +62,7 @@ module _ (s : Sight) (l : List ℕ) (allowed : Bool) where
         principal_made s p ≡ true →
         caller_acts_for s l p ≡ true →
         s.free ≡ Some n →
+        n < most_threads →
         ThreadComes (Fork p) (rows_changed (Value n) (rows.NewThread n p))
     ends : ThreadComes End (rows_changed Done rows.End)
     calls :

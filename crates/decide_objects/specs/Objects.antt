@@ -2,7 +2,7 @@
 use Rattle.std.specs.Prelude.{true, false, cond, ℕ, Option, Some, None, ◌+◌, ◌-◌, leb, ltb}
 use Rattle.numbers.specs.declared.Object.{Object}
 use Rattle.numbers.specs.declared.flow.LabelPair.{LabelPair}
-use Rattle.numbers.specs.Numbers.{most_queued}
+use Rattle.numbers.specs.Numbers.{most_objects, most_queued}
 use Rattle.store.specs.Store.{place_at}
 use Rattle.tables.specs.Rows.{held_in, is_locked, what_of, object_row}
 use Rattle.tables.specs.Things.{no_object}
@@ -40,7 +40,9 @@ empty_of kind.Lock = what.Lock false
 -- 12, where this number is the lowest free: "64 objects 7"; "empty or unlocked; answers number"
 abbrev pub made_at : ObjectKind → LabelPair → Option ℕ → Outcome
 made_at k l None = refused Full
-made_at k l (Some n) = rows_changed (Value n) (rows.Object n (object_row (empty_of k) l))
+made_at k l (Some n) =
+    cond (leb most_objects n) (refused Full)
+    (rows_changed (Value n) (rows.Object n (object_row (empty_of k) l)))
 
 module _ (s : Sight) where
   -- how many messages the object holds

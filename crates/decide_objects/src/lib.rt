@@ -18,7 +18,7 @@ ghost use Rattle.decide_objects.specs.Objects.{
 
 use answers::{Answer, Refusal};
 use frames::requests::{ObjectKind, ObjectRequest, OutsideRequest, Span};
-use numbers::{LabelPair, Object, QUEUED};
+use numbers::{LabelPair, OBJECTS, Object, QUEUED};
 use outcomes::{Outcome, RowChange, StoreChange, refused, rows_changed};
 use sight::Sight;
 use store::place_at;
@@ -59,11 +59,11 @@ fn new_object(s: Sight, k: ObjectKind, labels: LabelPair) -> Outcome
     ensures { result ≡ new_object s k labels }
 {
     match s.free {
-        Some(n) => {
+        Some(n) if usize::from(n) < OBJECTS => {
             let row = object_row_of(empty_of(k), labels);
             rows_changed(Answer::Value(n), RowChange::Object(n as usize, row))
         }
-        None => refused(Refusal::Full),
+        _ => refused(Refusal::Full),
     }
 }
 

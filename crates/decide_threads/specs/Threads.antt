@@ -6,7 +6,7 @@ use Rattle.numbers.specs.declared.Tag.{Tag}
 use Rattle.numbers.specs.declared.labels.Label.{Label}
 use Rattle.numbers.specs.declared.flow.LabelPair.{LabelPair}
 use Rattle.numbers.specs.Labels.{has, with_tag, without_tag}
-use Rattle.numbers.specs.Numbers.{most_put_aside}
+use Rattle.numbers.specs.Numbers.{most_threads, most_put_aside}
 use Rattle.frames.specs.declared.requests.ThreadRequest.{ThreadRequest}
 use Rattle.frames.specs.declared.requests.ThreadRequest.TheVariants.{IntoSecrecy, OutOfSecrecy, IntoIntegrity, OutOfIntegrity, Fork, End, Call, Return}
 use Rattle.answers.specs.declared.Answer.TheVariants.{Done, Value}
@@ -43,7 +43,9 @@ returned calls = cond (ltb calls 1) (refused Empty) (rows_changed Done rows.Retu
 -- 0E, where this number is the lowest free: "16 threads 7"; "copy of labels, principal P, nothing put aside; answers number"
 abbrev pub forked_to : Principal → Option ℕ → Outcome
 forked_to p None = refused Full
-forked_to p (Some n) = rows_changed (Value n) (rows.NewThread n p)
+forked_to p (Some n) =
+    cond (leb most_threads n) (refused Full)
+    (rows_changed (Value n) (rows.NewThread n p))
 
 module _ (s : Sight) (l : List ℕ) where
   -- 0E: "caller does not act for P 5; 16 threads 7"

@@ -7,7 +7,7 @@ ghost use Rattle.decide_threads.specs.Threads.{with_labels, out_of_secrecy, into
 use answers::{Answer, Refusal};
 use decide_authority::caller_acts_for;
 use frames::requests::ThreadRequest;
-use numbers::{Label, LabelPair, PUT_ASIDE, Principal, Tag};
+use numbers::{Label, LabelPair, PUT_ASIDE, Principal, THREADS, Tag};
 use outcomes::{Outcome, RowChange, done, refused, rows_changed};
 use sight::Sight;
 
@@ -68,8 +68,10 @@ fn decide_fork(s: Sight, links: &[u32], p: Principal) -> Outcome
         return refused(Refusal::Authority);
     }
     match s.free {
-        Some(n) => rows_changed(Answer::Value(n), RowChange::NewThread(n as usize, p)),
-        None => refused(Refusal::Full),
+        Some(n) if usize::from(n) < THREADS => {
+            rows_changed(Answer::Value(n), RowChange::NewThread(n as usize, p))
+        }
+        _ => refused(Refusal::Full),
     }
 }
 
