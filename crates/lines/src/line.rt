@@ -6,7 +6,7 @@ ghost use Rattle.store.specs.Store.{over};
 ghost use Rattle.lines.specs.Lines.{frame_of, all_digits, right_length, is_frame, line_of};
 
 use crate::digits::digits_of;
-use crate::reader::read_byte;
+use crate::reader::{is_read, read_byte};
 
 // What ends a line.
 pub const LINE_FEED: u8 = 10;
@@ -31,10 +31,12 @@ fn read_digits(line: &[u8], frame: &mut [u8]) -> bool
     ensures frame_after { frame.new ≡ over frame.old 0 (frame_of line.now) }
 {
     let mut ok = true;
-    for k in 0..line.len() / 2 {
-        let b = read_byte(line, 2 * k);
-        frame[k] = b.value;
+    let mut i = 0;
+    while !is_read(line, i) {
+        let b = read_byte(line, i);
+        frame[i / 2] = b.value;
         ok &= b.digits;
+        i += 2;
     }
     ok
 }
