@@ -1,4 +1,4 @@
-// The rows: what a change writes into the tables, at most one row of each and the counts.
+// The rows: what a change writes into the tables, at most one row, and the counts.
 ghost use Rattle.std.specs.Prelude.{◌≡◌, ◌<◌, ◌≤◌};
 ghost use Rattle.apply.specs.Apply.{labelled, forked, called, back_from, RowFits};
 ghost use Rattle.apply.specs.Writes.{of_row, row_writes};

@@ -1,13 +1,12 @@
 -- Each request and its answer say what becomes of the world: what is known of it before is known after it too. Assumes nothing.
 use mathlib.Core.Path.{◌≡◌, refl, ap}
-use mathlib.Core.Bool.{Bool, true, false, not, cond, ◌&&◌}
+use mathlib.Core.Bool.{Bool, true, false, cond, ◌&&◌}
 use mathlib.Core.List.{List, [], ◌∷◌}
 use Prim.Native.Nat.{ℕ, ◌≤◌, ◌<◌}
 use native.Mathlib.Omega.{arith}
 use borrow.Author.Tests.{ltb-true}
 use lib.Dec.{eqb, ltb}
 use lib.ListN.{length, get_or}
-use Rattle.std.proofs.lemmas.List.Quantifiers.{position-Some}
 use Rattle.numbers.specs.declared.Principal.{Principal}
 use Rattle.numbers.specs.declared.Tag.{Tag}
 use Rattle.numbers.proofs.Bools.{and_left, and_right, by-test, never}
@@ -115,7 +114,7 @@ module _ (k : Known) (w : World) (holds : WorldHolds w) (sized : SizedWorld w) (
     thread-learns (thread.is-in b) = knows
     thread-learns (thread.into-integrity b c d) = labels-learnt knows n low _
     thread-learns thread.out-of-integrity = labels-learnt knows n low _
-    thread-learns (thread.forks {p} o b c free room) = row-learnt knows _ (position-Some (λ (r : ThreadRow). not (is_live r.live)) t.threads o no_thread free).0 (forked own p) (p.0 ∷ []) (λ e. record { list = refl; places = refl })
+    thread-learns (thread.forks {p} o b c free room) = row-learnt knows _ (omega (arith, room, sized.threads)) (forked own p) (p.0 ∷ []) (λ e. record { list = refl; places = refl })
     thread-learns thread.ends = row-learnt knows n low no_thread [] (λ e. absurd (never e refl))
     thread-learns (thread.calls {p} b c room) = row-learnt knows n low (called own p) _ (λ e. called-ran (knows.runs n live) p room)
     thread-learns (thread.returns some) = row-learnt knows n low (back_from own) _ (λ e. back-ran (knows.runs n live) some)

@@ -58,10 +58,11 @@ fn now_is(s: Sight, o: Object, what: What) -> RowChange
 fn new_object(s: Sight, k: ObjectKind, labels: LabelPair) -> Outcome
     ensures { result ≡ new_object s k labels }
 {
+    // A number past the table is none.
     match s.free {
         Some(n) if usize::from(n) < OBJECTS => {
             let row = object_row_of(empty_of(k), labels);
-            rows_changed(Answer::Value(n), RowChange::Object(n as usize, row))
+            rows_changed(Answer::Value(n), RowChange::Object(usize::from(n), row))
         }
         _ => refused(Refusal::Full),
     }

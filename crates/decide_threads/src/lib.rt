@@ -67,9 +67,10 @@ fn decide_fork(s: Sight, links: &[u32], p: Principal) -> Outcome
     if !caller_acts_for(s, links, p) {
         return refused(Refusal::Authority);
     }
+    // A number past the table is none.
     match s.free {
         Some(n) if usize::from(n) < THREADS => {
-            rows_changed(Answer::Value(n), RowChange::NewThread(n as usize, p))
+            rows_changed(Answer::Value(n), RowChange::NewThread(usize::from(n), p))
         }
         _ => refused(Refusal::Full),
     }

@@ -60,6 +60,6 @@ abbrev pub among_places : Option ℕ → Option ℕ
 among_places (Some k) = cond (ltb k most_remembered) (Some k) None
 among_places None = None
 
--- the same of any place, one past the last too
+-- of any place: one past the last is none
 abbrev pub judged : Tally → Option ℕ → ℕ → Bool → Verdict
 judged t k x walk = judged_at t (among_places k) x walk
