@@ -114,7 +114,8 @@ module _ (k : Known) (w : World) (holds : WorldHolds w) (sized : SizedWorld w) (
     thread-learns (thread.is-in b) = knows
     thread-learns (thread.into-integrity b c d) = labels-learnt knows n low _
     thread-learns thread.out-of-integrity = labels-learnt knows n low _
-    thread-learns (thread.forks {p} o b c free room) = row-learnt knows _ (omega (arith, room, sized.threads)) (forked own p) (p.0 ∷ []) (λ e. record { list = refl; places = refl })
+    thread-learns (thread.forks {p} o b c free room) =
+        row-learnt knows _ (omega (arith, room, sized.threads)) (forked own p) (p.0 ∷ []) (λ e. record { list = refl; places = refl })
     thread-learns thread.ends = row-learnt knows n low no_thread [] (λ e. absurd (never e refl))
     thread-learns (thread.calls {p} b c room) = row-learnt knows n low (called own p) _ (λ e. called-ran (knows.runs n live) p room)
     thread-learns (thread.returns some) = row-learnt knows n low (back_from own) _ (λ e. back-ran (knows.runs n live) some)
