@@ -40,8 +40,8 @@ fn places_hold(s: &[u8], at: usize, n: usize) -> bool
     (0..n).all(|k| place_holds(s, at + k * PLACE))
 }
 
-// The object's places in use hold, and the others are zero. One that uses none is asked whole: the compiler knows
-// that number, 264, and writes no loop for it; the loop took up to a quarter longer where the linker put it badly.
+// The object's places in use hold, and the others are zero. One that uses none is asked whole: 264 is a number that
+// the compiler knows, and writes no loop for; with the loop a request's time hung on where the linker put the code.
 fn object_holds(s: &[u8], at: usize, n: usize) -> bool
     requires { (at + 264 ≤ length s.now) × (n ≤ 8) }
     ensures { result ≡ object_holds s.now at n }
